@@ -1,0 +1,31 @@
+-- What a test says of the condition that it decides.
+use mathlib.Core.Path.{_≡_, refl}
+use mathlib.Core.Bool.{Bool, true, false, _&&_}
+use Prim.Native.Nat.{ℕ}
+use native.Mathlib.Omega.{arith}
+use Rattle.common.specs.First.{Decides, holds, fails, decides-iff, decides-and}
+
+-- both tests
+infixl 35 _and_
+pub _and_ : {P Q : Type 0} {a b : Bool} → Decides P a → Decides Q b → Decides (P × Q) (a && b)
+d and e = decides-and d e
+
+-- from the test's value to the condition
+pub when-true : {P : Type 0} {b : Bool} → Decides P b → b ≡ true → P
+when-true (holds p) e = p
+when-true (fails p) e = let z : _≡_ {A = ℕ} 0 1 = cc in absurd (omega arith)
+
+pub when-false : {P : Type 0} {b : Bool} → Decides P b → b ≡ false → P → ⊥
+when-false (fails p) e = p
+when-false (holds p) e = let z : _≡_ {A = ℕ} 0 1 = cc in absurd (omega arith)
+
+-- `decides-iff` with the test first
+pub decides-by : {P Q : Type 0} {b : Bool} → Decides P b → (P → Q) → (Q → P) → Decides Q b
+decides-by d f g = decides-iff f g d
+
+-- two tests that decide one condition agree
+pub decided : {P : Type 0} {a b : Bool} → Decides P a → Decides P b → a ≡ b
+decided (holds p) (holds q) = refl
+decided (holds p) (fails q) = absurd (q p)
+decided (fails p) (holds q) = absurd (p q)
+decided (fails p) (fails q) = refl

@@ -1,0 +1,6 @@
+pub mod Bytes
+pub mod BigEndian
+pub mod Buffer
+pub mod First
+pub mod Decided
+pub mod Same

@@ -1,0 +1,27 @@
+-- Equal lists of numbers, as a test.
+use mathlib.Core.Path.{_≡_, refl}
+use mathlib.Core.Bool.{Bool, true, false, _&&_}
+use mathlib.Core.List.{List, [], _∷_}
+use Prim.Native.Nat.{ℕ}
+use native.Mathlib.Omega.{arith}
+use lib.Dec.{eqb}
+use borrow.Author.Tests.{eqb-true, eqb-false}
+use Rattle.common.specs.First.{Decides, holds, fails}
+
+unfoldable pub same : List ℕ → List ℕ → Bool
+same [] [] = true
+same [] (y ∷ ys) = false
+same (x ∷ xs) [] = false
+same (x ∷ xs) (y ∷ ys) = eqb x y && same xs ys
+
+pub decides-same : (a b : List ℕ) → Decides (a ≡ b) (same a b)
+unfolding same
+decides-same [] [] = holds refl
+decides-same [] (y ∷ ys) = fails (λ e. let z : _≡_ {A = ℕ} 0 1 = cc in omega arith)
+decides-same (x ∷ xs) [] = fails (λ e. let z : _≡_ {A = ℕ} 0 1 = cc in omega arith)
+decides-same (x ∷ xs) (y ∷ ys) = go (eqb x y) refl (same xs ys) (decides-same xs ys)
+  where
+    go : (q : Bool) → eqb x y ≡ q → (r : Bool) → Decides (xs ≡ ys) r → Decides (x ∷ xs ≡ y ∷ ys) (q && r)
+    go true e r (holds f) = let g = eqb-true x y e in holds (cc)
+    go true e r (fails f) = fails (λ p. f (cc))
+    go false e r d = fails (λ p. eqb-false x y e (cc))

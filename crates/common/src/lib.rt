@@ -1,0 +1,52 @@
+// What several crates need of byte slices: clearing and copying.
+ghost use mathlib.Core.Path.{_≡_};
+ghost use Prim.Native.Nat.{_+_, _≤_, _<_};
+ghost use lib.ListN.{length, replicate};
+ghost use lib.Seq.{paste};
+ghost use Rattle.common.specs.BigEndian.{number2, number4};
+
+// Sets every byte to 0. Rules out a byte left behind at either end.
+pub fn zero(b: &mut [u8])
+    ensures { λ _. ⌜ now (b .exit) ≡ replicate (length (now (b .entry))) 0 ⌝ }
+{
+    let mut at: usize = 0;
+    while at < b.len() {
+        b[at] = 0;
+        at += 1;
+    }
+}
+
+// Copies src into dst from at on. Rules out a copy that starts or ends a byte off.
+pub fn copy_at(dst: &mut [u8], at: usize, src: &[u8])
+    requires { ⌜ at + length (now src) ≤ length (now dst) ⌝ }
+    ensures { λ _. ⌜ now (dst .exit) ≡ paste (now (dst .entry)) at (now (src .entry)) (length (now (src .entry))) ⌝ }
+{
+    let mut i: usize = 0;
+    while i < src.len() {
+        dst[at + i] = src[i];
+        i += 1;
+    }
+}
+
+// A byte as a wider number.
+pub fn wide(x: u8) -> u32
+    ensures { λ r. ⌜ (r ≡ x) × (r < 256) ⌝ }
+{
+    x as u32
+}
+
+// The number in the two bytes at i, the highest first.
+pub fn number2_at(b: &[u8], i: usize) -> u32
+    requires { ⌜ i + 1 < length (now b) ⌝ }
+    ensures { λ r. ⌜ (r ≡ number2 (now (b .entry)) i) × (r < 65536) ⌝ }
+{
+    wide(b[i]) * 256 + wide(b[i + 1])
+}
+
+// The number in the four bytes at i, the highest first.
+pub fn number4_at(b: &[u8], i: usize) -> u32
+    requires { ⌜ i + 3 < length (now b) ⌝ }
+    ensures { λ r. ⌜ r ≡ number4 (now (b .entry)) i ⌝ }
+{
+    ((wide(b[i]) * 256 + wide(b[i + 1])) * 256 + wide(b[i + 2])) * 256 + wide(b[i + 3])
+}
