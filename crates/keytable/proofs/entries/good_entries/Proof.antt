@@ -1,0 +1,60 @@
+-- `good_entries`: the entries before i are good.
+use mathlib.Core.Path.{_≡_, refl}
+use Prim.Native.Nat.{_-_, _≤_}
+use native.Mathlib.Omega.{arith}
+use borrow.Author.Needs.{needs}  --
+use borrow.Author.Count.{below-none, below-more}
+use Rattle.common.specs.First.{holds, fails}
+use Rattle.keytable.specs.Table.{entryAt, GoodEntries}
+use Rattle.common.specs.Decided.{when-true, when-false}
+use Rattle.keytable.proofs.entries.good_entries.Statement.{statement}
+use Rattle.keytable.proofs.entries.good_entries.Tie as tie
+
+abbrev Inv-loop : tie.InvT-loop
+Inv-loop table n first i₀ i = (i ≤ n) × GoodEntries table i × (first ≡ entryAt n)
+
+abbrev μ-loop : tie.MeasureT-loop
+μ-loop table n first i₀ i = n - i
+
+mul-first : tie.Need-mul-first Inv-loop μ-loop
+mul-first c = omega arith
+
+add-first : tie.Need-add-first Inv-loop μ-loop
+add-first c = omega arith
+
+loop-holds : tie.Need-loop-holds Inv-loop μ-loop
+loop-holds c = (omega arith, below-none _, refl)
+
+good-entry-requires : tie.Need-good-entry-requires Inv-loop μ-loop
+good-entry-requires c κs = (omega arith, omega arith, omega arith)
+
+add-i : tie.Need-add-i Inv-loop μ-loop
+add-i c = omega arith
+
+loop-less : tie.Need-loop-less Inv-loop μ-loop
+loop-less c = omega arith
+
+loop-again : tie.Need-loop-again Inv-loop μ-loop
+loop-again c = (omega arith, below-more _ _ (c .before .before .before .loop .inv .1) (when-true (c .before .good-entry .ensures) (c .if1 .taken)), c .before .before .before .loop .inv .2)
+
+returns : tie.Need-returns Inv-loop μ-loop
+returns c = fails (λ g. when-false (c .before .good-entry .ensures) (c .if1 .left) (g _ (c .before .before .loop-test .taken)))
+
+returns-2 : tie.Need-returns-2 Inv-loop μ-loop
+returns-2 c = holds (λ k h. c .before .loop .inv .1 k (omega arith))
+
+pub good-entries-spec : {M : Type 1} → statement M
+good-entries-spec =
+    tie.close
+    (tie.spec
+    Inv-loop
+    μ-loop
+    mul-first
+    add-first
+    loop-holds
+    good-entry-requires
+    add-i
+    loop-less
+    loop-again
+    returns
+    returns-2)

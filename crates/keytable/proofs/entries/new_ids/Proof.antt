@@ -1,0 +1,50 @@
+-- `new_ids`: the ids before j differ.
+use Prim.Native.Nat.{ℕ, _-_, _≤_, _<_}
+use native.Mathlib.Omega.{arith}
+use borrow.Author.Count.{below-none, below-more}
+use Rattle.common.specs.First.{holds, fails}
+use Rattle.keytable.specs.Table.{NewId}
+use Rattle.common.specs.Decided.{when-true, when-false}
+use Rattle.keytable.proofs.entries.new_ids.Statement.{statement}
+use Rattle.keytable.proofs.entries.new_ids.Tie as tie
+
+abbrev Inv-loop : tie.InvT-loop
+Inv-loop table n j₀ j = (j ≤ n) × ((k : ℕ) → k < j → NewId table k)
+
+abbrev μ-loop : tie.MeasureT-loop
+μ-loop table n j₀ j = n - j
+
+loop-holds : tie.Need-loop-holds Inv-loop μ-loop
+loop-holds c = (omega arith, below-none _)
+
+new-id-requires : tie.Need-new-id-requires Inv-loop μ-loop
+new-id-requires c κs = (omega arith, omega arith, λ i h. c .before .before .before .pre .2 i (omega arith))
+
+add-j : tie.Need-add-j Inv-loop μ-loop
+add-j c = omega arith
+
+loop-less : tie.Need-loop-less Inv-loop μ-loop
+loop-less c = omega arith
+
+loop-again : tie.Need-loop-again Inv-loop μ-loop
+loop-again c = (omega arith, below-more _ _ (c .before .before .before .loop .inv .1) (when-true (c .before .new-id .ensures) (c .if1 .taken)))
+
+returns : tie.Need-returns Inv-loop μ-loop
+returns c = fails (λ g. when-false (c .before .new-id .ensures) (c .if1 .left) (g _ (c .before .before .loop-test .taken)))
+
+returns-2 : tie.Need-returns-2 Inv-loop μ-loop
+returns-2 c = holds (λ k h. c .before .loop .inv .1 k (omega arith))
+
+pub new-ids-spec : {M : Type 1} → statement M
+new-ids-spec =
+    tie.close
+    (tie.spec
+    Inv-loop
+    μ-loop
+    loop-holds
+    new-id-requires
+    add-j
+    loop-less
+    loop-again
+    returns
+    returns-2)

@@ -1,0 +1,57 @@
+// The areas of the table: where they may lie, their bytes, and equal bytes.
+ghost use mathlib.Core.Path.{_≡_};
+ghost use Prim.Native.Nat.{_+_, _≤_, _<_};
+ghost use lib.ListN.{length};
+ghost use Rattle.common.specs.First.{Decides};
+ghost use Rattle.keytable.specs.Table.{countOf, entryAt, areaAt, part, Placed};
+use common::number2_at;
+
+// Whether the area whose offset and length stand at `at` has from `least` to `most` bytes, begins at `first`, where the entries
+// end, or later, and ends within the table.
+pub(crate) fn placed(table: &[u8], at: usize, first: usize, least: usize, most: usize) -> bool
+    requires { ⌜ (at + 3 < length (now table)) × (first ≡ entryAt (countOf (now table))) ⌝ }
+    ensures { λ r. ⌜ Decides (Placed (now (table .entry)) least most (areaAt (now (table .entry)) at)) r ⌝ }
+{
+    let offset = number2_at(table, at) as usize;
+    let size = number2_at(table, at + 2) as usize;
+    if size < least {
+        return false;
+    }
+    if most < size {
+        return false;
+    }
+    if offset < first {
+        return false;
+    }
+    if table.len() < offset + size {
+        return false;
+    }
+    true
+}
+
+// The bytes of the area whose offset and length stand at `at`.
+pub(crate) fn area(table: &[u8], at: usize) -> &[u8]
+    requires { ⌜ (at + 3 < length (now table)) × (areaAt (now table) at .offset + areaAt (now table) at .size ≤ length (now table)) ⌝ }
+    ensures { λ r. ⌜ now r ≡ part (now (table .entry)) (areaAt (now (table .entry)) at) ⌝ }
+{
+    let start = number2_at(table, at) as usize;
+    let end = start + number2_at(table, at + 2) as usize;
+    &table[start..end]
+}
+
+// Whether two slices have the same bytes.
+pub(crate) fn same(a: &[u8], b: &[u8]) -> bool
+    ensures { λ r. ⌜ Decides (now (a .entry) ≡ now (b .entry)) r ⌝ }
+{
+    if a.len() != b.len() {
+        return false;
+    }
+    let mut i: usize = 0;
+    while i < a.len() {
+        if a[i] != b[i] {
+            return false;
+        }
+        i += 1;
+    }
+    true
+}

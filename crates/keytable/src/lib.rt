@@ -1,0 +1,120 @@
+// The key table: whether its bytes are in order, and the keys that they mean. The table is read at each call, straight from its bytes;
+// ids and secrets are handed on as parts of it. Only `good` takes any bytes; the others ask for a table that isn't bad.
+mod area;
+mod entries;
+mod limits;
+
+ghost use mathlib.Core.Path.{_≡_};
+ghost use mathlib.Core.Bool.{false, not};
+ghost use Prim.Native.Nat.{_≤_, _<_};
+ghost use lib.ListN.{length};
+ghost use Rattle.keytable.specs.Key.{key, allowsHS256, allowsFormat, find, only};
+ghost use Rattle.keytable.specs.Table.{badTable, keys};
+use common::number2_at;
+use common::number4_at;
+
+// The index of a key.
+pub enum Found {
+    At(usize),
+    Nothing,
+}
+
+// Whether the table is in order. Rules out a table let through though its total length isn't the lent one, and one refused or let
+// through because its ids are compared by their first bytes only.
+pub fn good(table: &[u8]) -> bool
+    ensures { λ r. ⌜ r ≡ not (badTable (now (table .entry))) ⌝ }
+{
+    if table.len() < limits::TABLE_LEAST {
+        return false;
+    }
+    if limits::TABLE_MOST < table.len() {
+        return false;
+    }
+    if number2_at(table, 0) != 1 {
+        return false;
+    }
+    let n = number2_at(table, 2) as usize;
+    if limits::KEYS_MOST < n {
+        return false;
+    }
+    let total = number4_at(table, 4) as usize;
+    if total != table.len() {
+        return false;
+    }
+    if total < limits::HEAD + limits::ENTRY * n {
+        return false;
+    }
+    if entries::good_entries(table, n) {
+        entries::new_ids(table, n)
+    } else {
+        false
+    }
+}
+
+// How many keys there are. Rules out the edition in its place, and a count read one byte on.
+pub fn count(table: &[u8]) -> usize
+    requires { ⌜ badTable (now table) ≡ false ⌝ }
+    ensures { λ r. ⌜ r ≡ length (keys (now (table .entry))) ⌝ }
+{
+    number2_at(table, 2) as usize
+}
+
+// The id of key i. Rules out the secret in its place, and the id of the next key.
+pub fn id(table: &[u8], i: usize) -> &[u8]
+    requires { ⌜ (badTable (now table) ≡ false) × (i < length (keys (now table))) ⌝ }
+    ensures { λ r. ⌜ now r ≡ key (keys (now (table .entry))) i .id ⌝ }
+{
+    area::area(table, limits::HEAD + limits::ENTRY * i)
+}
+
+// The secret of key i. Rules out the id in its place, and the secret of the next key.
+pub fn secret(table: &[u8], i: usize) -> &[u8]
+    requires { ⌜ (badTable (now table) ≡ false) × (i < length (keys (now table))) ⌝ }
+    ensures { λ r. ⌜ now r ≡ key (keys (now (table .entry))) i .secret ⌝ }
+{
+    area::area(table, limits::HEAD + limits::ENTRY * i + 4)
+}
+
+// Whether key i allows HS256. Rules out a look at the formats, and the bit turned round.
+pub fn allows_hs256(table: &[u8], i: usize) -> bool
+    requires { ⌜ (badTable (now table) ≡ false) × (i < length (keys (now table))) ⌝ }
+    ensures { λ r. ⌜ r ≡ allowsHS256 (key (keys (now (table .entry))) i) ⌝ }
+{
+    table[limits::HEAD + limits::ENTRY * i + 8] % 2 == 1
+}
+
+// Whether key i allows format f. Rules out the next format's bit, and bits counted from the other end.
+pub fn allows_format(table: &[u8], i: usize, f: u8) -> bool
+    requires { ⌜ (badTable (now table) ≡ false) × (i < length (keys (now table))) × (1 ≤ f) × (f ≤ 8) ⌝ }
+    ensures { λ r. ⌜ r ≡ allowsFormat (key (keys (now (table .entry))) i) f ⌝ }
+{
+    (table[limits::HEAD + limits::ENTRY * i + 9] >> (f - 1)) % 2 == 1
+}
+
+// The index of the key with this id. Rules out an index one off, and a key whose id only begins so.
+pub fn find(table: &[u8], wanted: &[u8]) -> Found
+    requires { ⌜ badTable (now table) ≡ false ⌝ }
+    ensures { λ r. ⌜ r ≡ find (now (wanted .entry)) (keys (now (table .entry))) ⌝ }
+{
+    let n = count(table);
+    let mut i: usize = 0;
+    while i < n {
+        if area::same(id(table, i), wanted) {
+            return Found::At(i);
+        }
+        i += 1;
+    }
+    Found::Nothing
+}
+
+// The index of the only key. Rules out the first of two, and an index past it.
+pub fn only(table: &[u8]) -> Found
+    requires { ⌜ badTable (now table) ≡ false ⌝ }
+    ensures { λ r. ⌜ r ≡ only (keys (now (table .entry))) ⌝ }
+{
+    if count(table) == 1 {
+        Found::At(0)
+    } else {
+        Found::Nothing
+    }
+}

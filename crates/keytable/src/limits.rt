@@ -1,0 +1,22 @@
+// The sizes and limits of the key table.
+
+// The bytes before the entries, and those of an entry.
+pub(crate) const HEAD: usize = 8;
+
+pub(crate) const ENTRY: usize = 12;
+
+pub(crate) const TABLE_LEAST: usize = 8;
+
+pub(crate) const TABLE_MOST: usize = 8192;
+
+pub(crate) const KEYS_MOST: usize = 32;
+
+pub(crate) const ID_LEAST: usize = 1;
+
+pub(crate) const ID_MOST: usize = 64;
+
+pub(crate) const SECRET_LEAST: usize = 32;
+
+pub(crate) const SECRET_MOST: usize = 128;
+// Bit 0 alone may be set.
+pub(crate) const ALGORITHMS_END: u8 = 2;
