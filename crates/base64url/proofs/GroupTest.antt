@@ -1,0 +1,49 @@
+-- One test for a group: the bitwise or of four values is below 64 exactly when each of them is.
+use mathlib.Core.Path.{_≡_, refl, _∙_}
+use mathlib.Core.Bool.{Bool, true, false, _&&_, and-assoc, and-true}
+use mathlib.Core.List.{[], _∷_}
+use Prim.Native.Nat.{ℕ, _≤_, _<_}
+use native.Mathlib.Omega.{arith}
+use lib.Bits.{bitOr, or-add-and, and-le-l, and-le-r, or-lt}
+use lib.Dec.{ltb}
+use borrow.Author.Tests.{lt-ltb, le-ltb, ltb-true, ltb-false}
+use Rattle.base64url.specs.Alphabet.{value}
+use Rattle.base64url.specs.Base64url.{alphabetic, strict}
+use Rattle.base64url.specs.GroupLaws.{strict-groups}
+
+le-or-l : (a b : ℕ) → a ≤ bitOr a b
+le-or-l a b = omega (arith, or-add-and a b, and-le-r a b)
+
+le-or-r : (a b : ℕ) → b ≤ bitOr a b
+le-or-r a b = omega (arith, or-add-and a b, and-le-l a b)
+
+or-test : (a b : ℕ) → ltb (bitOr a b) 64 ≡ ltb a 64 && ltb b 64
+or-test a b = go (ltb a 64) (ltb b 64) refl refl
+  where
+    go : (t u : Bool) → ltb a 64 ≡ t → ltb b 64 ≡ u → ltb (bitOr a b) 64 ≡ t && u
+    go true true e f = lt-ltb _ _ (or-lt 6 a b (ltb-true a 64 e) (ltb-true b 64 f))
+    go true false e f = let h = ltb-false b 64 f in le-ltb (bitOr a b) 64 (omega (arith, le-or-r a b))
+    go false u e f = let h = ltb-false a 64 e in le-ltb (bitOr a b) 64 (omega (arith, le-or-l a b))
+
+abbrev pub or4 : ℕ → ℕ → ℕ → ℕ → ℕ
+or4 a b c d = bitOr (bitOr (bitOr a b) c) d
+
+-- each of the four is below 64
+abbrev pub Small : ℕ → ℕ → ℕ → ℕ → Type 0
+Small a b c d = (a < 64) × (b < 64) × (c < 64) × (d < 64)
+
+pub below : (a b c d : ℕ) → or4 a b c d < 64 → Small a b c d
+below a b c d h =
+    let ab = bitOr a b in
+    let abc = bitOr ab c in
+    let p = le-or-l a b in
+    let q = le-or-r a b in
+    let r = le-or-l ab c in
+    let s = le-or-r ab c in
+    let t = le-or-l abc d in
+    let u = le-or-r abc d in
+    (omega arith, omega arith, omega arith, omega arith)
+
+pub group-test : (a b c d : ℕ) → strict (a ∷ b ∷ c ∷ d ∷ []) ≡ ltb (or4 (value a) (value b) (value c) (value d)) 64
+unfolding alphabetic
+group-test a b c d = strict-groups (a ∷ b ∷ c ∷ d ∷ []) refl ∙ simp (or-test, and-assoc, and-true)

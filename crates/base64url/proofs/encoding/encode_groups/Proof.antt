@@ -1,0 +1,125 @@
+-- `encode_groups` meets its contract: up to i, the text of the groups is written.
+use mathlib.Core.Path.{_≡_, refl}
+use Prim.Native.Nat.{_+_, _≤_, _-_, _*_}
+use native.Mathlib.Omega.{arith}
+use lib.ListN.{length, take, length-set}
+use lib.Seq.{take-all}
+use Rattle.base64url.specs.Base64url.{encode}
+use Rattle.base64url.specs.Outcome.{laid}
+use Rattle.base64url.proofs.EncodeLaws.{one-more}
+use Rattle.base64url.proofs.encoding.encode_groups.Statement.{statement}
+use Rattle.base64url.proofs.encoding.encode_groups.Tie as tie
+
+abbrev Inv-loop : tie.InvT-loop
+Inv-loop alphabet bytes out₀ n i₀ out i = (i ≤ n) × (length out ≡ length out₀) × (out ≡ laid (encode (take (i * 3) bytes)) out₀)
+
+abbrev μ-loop : tie.MeasureT-loop
+μ-loop alphabet bytes out₀ n i₀ out i = n - i
+
+loop-holds : tie.Need-loop-holds Inv-loop μ-loop
+unfolding encode
+loop-holds c = (omega arith, refl, refl)
+
+mul-from : tie.Need-mul-from Inv-loop μ-loop
+mul-from c = omega arith
+
+add-s : tie.Need-add-s Inv-loop μ-loop
+add-s c = omega arith
+
+sub-s : tie.Need-sub-s Inv-loop μ-loop
+sub-s c = omega arith
+
+part-s-start : tie.Need-part-s-start Inv-loop μ-loop
+part-s-start c = omega arith
+
+part-s-end : tie.Need-part-s-end Inv-loop μ-loop
+part-s-end c = omega arith
+
+shared-slice-read-encode-group : tie.Need-shared-slice-read-encode-group Inv-loop μ-loop
+shared-slice-read-encode-group c = omega arith
+
+shared-slice-read-encode-group-2 : tie.Need-shared-slice-read-encode-group-2 Inv-loop μ-loop
+shared-slice-read-encode-group-2 c = omega arith
+
+shared-slice-read-encode-group-3 : tie.Need-shared-slice-read-encode-group-3 Inv-loop μ-loop
+shared-slice-read-encode-group-3 c = omega arith
+
+encode-group-requires : tie.Need-encode-group-requires Inv-loop μ-loop
+encode-group-requires c κs = c .before .before .before .before .before .before .before .before .pre .0
+
+mul-to : tie.Need-mul-to Inv-loop μ-loop
+mul-to c = omega arith
+
+slice-write-out : tie.Need-slice-write-out Inv-loop μ-loop
+slice-write-out c = omega arith
+
+add-out : tie.Need-add-out Inv-loop μ-loop
+add-out c = omega arith
+
+slice-write-out-2 : tie.Need-slice-write-out-2 Inv-loop μ-loop
+slice-write-out-2 c = simp length-set (omega arith)
+
+add-out-2 : tie.Need-add-out-2 Inv-loop μ-loop
+add-out-2 c = omega arith
+
+slice-write-out-3 : tie.Need-slice-write-out-3 Inv-loop μ-loop
+slice-write-out-3 c = simp length-set (omega arith)
+
+add-out-3 : tie.Need-add-out-3 Inv-loop μ-loop
+add-out-3 c = omega arith
+
+slice-write-out-4 : tie.Need-slice-write-out-4 Inv-loop μ-loop
+slice-write-out-4 c = simp length-set (omega arith)
+
+add-i : tie.Need-add-i Inv-loop μ-loop
+add-i c = omega arith
+
+loop-less : tie.Need-loop-less Inv-loop μ-loop
+loop-less c = omega arith
+
+loop-again : tie.Need-loop-again Inv-loop μ-loop
+loop-again c =
+    let l = c .before .before .before .before .before .before .loop in (
+      omega arith,
+      simp length-set (l .inv .1),
+      one-more _ _ (l .out) (l .i) (l .i * 3 + 3 - l .i * 3) (omega arith) (omega arith) (l .inv .2) (omega arith) (c .encode-group .ensures),
+    )
+
+same-length : tie.Need-same-length Inv-loop μ-loop
+same-length c = c .before .loop .inv .1
+
+returns : tie.Need-returns Inv-loop μ-loop
+returns c =
+    let l = c .before .loop in
+    let e = take-all (l .i * 3) (c .before .before .before .before .args .bytes .now) (omega arith) in
+    rw e at (l .inv .2)
+
+pub encode-groups-spec : {M : Type 1} → statement M
+encode-groups-spec =
+    tie.close
+    (tie.spec
+    Inv-loop
+    μ-loop
+    loop-holds
+    mul-from
+    add-s
+    sub-s
+    part-s-start
+    part-s-end
+    shared-slice-read-encode-group
+    shared-slice-read-encode-group-2
+    shared-slice-read-encode-group-3
+    encode-group-requires
+    mul-to
+    slice-write-out
+    add-out
+    slice-write-out-2
+    add-out-2
+    slice-write-out-3
+    add-out-3
+    slice-write-out-4
+    add-i
+    loop-less
+    loop-again
+    same-length
+    returns)

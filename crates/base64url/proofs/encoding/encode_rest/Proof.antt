@@ -1,0 +1,96 @@
+-- `encode_rest` meets its contract, by the number of bytes.
+use mathlib.Core.Path.{_≡_, refl, subst}
+use mathlib.Core.List.{List}
+use Prim.Native.Nat.{ℕ}
+use native.Mathlib.Omega.{arith}
+use lib.ListN.{length, set, length-set}
+use borrow.Author.Needs.{needs}
+use Rattle.base64url.specs.Base64url.{encode}
+use Rattle.base64url.specs.LengthLaws.{encoded-length}
+use Rattle.base64url.specs.Outcome.{laid}
+use Rattle.base64url.specs.Tables.{entries}
+use Rattle.base64url.proofs.Listed.{listed}
+use Rattle.base64url.proofs.RestLaws.{one-byte, two-bytes}
+use Rattle.base64url.proofs.encoding.encode_rest.Statement.{statement}
+use Rattle.base64url.proofs.encoding.encode_rest.Tie as tie
+
+returns : tie.Need-returns
+unfolding entries encode
+returns c =
+    let s = c .before .before .before .args .bytes .now in
+    let out = c .before .before .before .args .out .now in
+    subst (λ (l : List ℕ). out ≡ laid (encode l) out) (listed s 0 (c .if1 .taken)) refl
+
+shared-slice-read-encode-group : tie.Need-shared-slice-read-encode-group
+shared-slice-read-encode-group c = search needs
+
+encode-group-requires : tie.Need-encode-group-requires
+encode-group-requires c κs = search needs
+
+slice-write-out : tie.Need-slice-write-out
+slice-write-out c = omega (arith, encoded-length (length (c .before .before .before .before .before .before .args .bytes .now)))
+
+slice-write-out-2 : tie.Need-slice-write-out-2
+slice-write-out-2 c = simp length-set (omega (arith, encoded-length (length (c .before .before .before .before .before .before .args .bytes .now))))
+
+same-length : tie.Need-same-length
+same-length c = search needs
+
+returns-2 : tie.Need-returns-2
+unfolding entries
+returns-2 c =
+    let s = c .before .before .before .before .before .before .args .bytes .now in
+    let out = c .before .before .before .before .before .before .args .out .now in
+    let g = c .encode-group in
+    subst (λ (l : List ℕ). set (set out 0 (g .result .a)) 1 (g .result .b) ≡ laid (encode l) out) (listed s 1 (omega arith))
+    (one-byte _ _ _ _ _ out (g .ensures) (omega (arith, encoded-length (length s))))
+
+shared-slice-read-encode-group-2 : tie.Need-shared-slice-read-encode-group-2
+shared-slice-read-encode-group-2 c = search needs
+
+shared-slice-read-encode-group-3 : tie.Need-shared-slice-read-encode-group-3
+shared-slice-read-encode-group-3 c = search needs
+
+encode-group-requires-2 : tie.Need-encode-group-requires-2
+encode-group-requires-2 c κs = search needs
+
+slice-write-out-3 : tie.Need-slice-write-out-3
+slice-write-out-3 c = omega (arith, encoded-length (length (c .before .before .before .before .before .before .before .args .bytes .now)))
+
+slice-write-out-4 : tie.Need-slice-write-out-4
+slice-write-out-4 c = simp length-set (omega (arith, encoded-length (length (c .before .before .before .before .before .before .before .args .bytes .now))))
+
+slice-write-out-5 : tie.Need-slice-write-out-5
+slice-write-out-5 c = simp length-set (omega (arith, encoded-length (length (c .before .before .before .before .before .before .before .args .bytes .now))))
+
+same-length-2 : tie.Need-same-length-2
+same-length-2 c = search needs
+
+returns-3 : tie.Need-returns-3
+unfolding entries
+returns-3 c =
+    let s = c .before .before .before .before .before .before .before .args .bytes .now in
+    let out = c .before .before .before .before .before .before .before .args .out .now in
+    let g = c .encode-group2 in
+    subst (λ (l : List ℕ). set (set (set out 0 (g .result .a)) 1 (g .result .b)) 2 (g .result .c) ≡ laid (encode l) out) (listed s 2 (omega arith))
+    (two-bytes _ _ _ _ _ _ out (g .ensures) (omega (arith, encoded-length (length s))))
+
+pub encode-rest-spec : {M : Type 1} → statement M
+encode-rest-spec =
+    tie.close
+    (tie.spec
+    returns
+    shared-slice-read-encode-group
+    encode-group-requires
+    slice-write-out
+    slice-write-out-2
+    same-length
+    returns-2
+    shared-slice-read-encode-group-2
+    shared-slice-read-encode-group-3
+    encode-group-requires-2
+    slice-write-out-3
+    slice-write-out-4
+    slice-write-out-5
+    same-length-2
+    returns-3)

@@ -1,0 +1,13 @@
+-- The constant is the list that the definition computes.
+use mathlib.Core.Path.{refl}
+use Rattle.base64url.specs.Alphabet.{character}
+use Rattle.base64url.specs.Tables.{entries, characters}
+use Rattle.base64url.proofs.tables.alphabet.Statement.{statement}
+use Rattle.base64url.proofs.tables.alphabet.Tie as tie
+
+returns : tie.Need-returns
+unfolding characters entries character
+returns c = refl
+
+pub alphabet-spec : {M : Type 1} → statement M
+alphabet-spec = tie.close (tie.spec returns)

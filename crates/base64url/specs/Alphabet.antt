@@ -1,0 +1,27 @@
+-- The alphabet of base64url (RFC 4648 section 5, table 2). Characters are numbers.
+use mathlib.Core.Bool.{Bool, cond, _&&_}
+use Prim.Native.Nat.{ℕ, _+_, _-_}
+use lib.Dec.{ltb, leb, eqb}
+
+abbrev pub between : ℕ → ℕ → ℕ → Bool
+between a b c = leb a c && leb c b
+
+-- the value of a character, 0 to 63: A to Z, a to z, 0 to 9, - and _; 64 for any other, as = + / and white space
+unfoldable pub value : ℕ → ℕ
+value c =
+    cond (between 65 90 c) (c - 65)
+    (cond (between 97 122 c) (c - 71)
+    (cond (between 48 57 c) (c + 4)
+    (cond (eqb c 45) 62
+    (cond (eqb c 95) 63 64))))
+
+abbrev pub inAlphabet : ℕ → Bool
+inAlphabet c = ltb (value c) 64
+
+-- the character of a value
+unfoldable pub character : ℕ → ℕ
+character v =
+    cond (ltb v 26) (v + 65)
+    (cond (ltb v 52) (v + 71)
+    (cond (ltb v 62) (v - 4)
+    (cond (eqb v 62) 45 95)))

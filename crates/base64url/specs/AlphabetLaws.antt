@@ -1,0 +1,50 @@
+-- Values and characters are each other's inverses.
+use mathlib.Core.Path.{_≡_, refl}
+use mathlib.Core.Bool.{Bool, true, false, cond}
+use Prim.Native.Nat.{ℕ, _<_, _≤_}
+use native.Mathlib.Omega.{arith}
+use lib.Dec.{ltb}
+use borrow.Author.Tests.{lt-ltb, ltb-true, ltb-false, le-leb, lt-leb, ne-eqb}
+use Rattle.base64url.specs.Alphabet.{value, character, inAlphabet}
+use Rattle.base64url.specs.Tables.{entries, agree}
+
+-- for all values at once, by one computed table
+pub value-character : (v : ℕ) → v < 64 → value (character v) ≡ v
+unfolding entries value character
+value-character v h = agree (λ v. value (character v)) (λ v. v) 64 v refl h
+
+-- past the last letter there are no characters
+pub value-past : (c : ℕ) → 123 ≤ c → value c ≡ 64
+unfolding value
+value-past c h =
+    simp (
+      le-leb 65 c (omega arith),
+      le-leb 97 c (omega arith),
+      le-leb 48 c (omega arith),
+      lt-leb c 90 (omega arith),
+      lt-leb c 122 (omega arith),
+      lt-leb c 57 (omega arith),
+      ne-eqb c 45 (λ e. omega arith),
+      ne-eqb c 95 (λ e. omega arith),
+    )
+
+-- so a character of the alphabet is below 123
+pub character-below : (c : ℕ) → value c < 64 → c < 123
+character-below c h = go (ltb c 123) refl
+  where
+    go : (t : Bool) → ltb c 123 ≡ t → c < 123
+    go true e = ltb-true c 123 e
+    go false e = let p = value-past c (ltb-false c 123 e) in absurd (omega arith)
+
+-- for all numbers below 123 at once, by one computed table
+returned : ℕ → ℕ
+returned c = cond (inAlphabet c) (character (value c)) c
+
+pub character-value : (c : ℕ) → inAlphabet c ≡ true → character (value c) ≡ c
+unfolding returned entries value character
+character-value c e =
+    let a : returned c ≡ c = agree returned (λ c. c) 123 c refl (character-below c (ltb-true (value c) 64 e)) in
+    rw e at a
+
+pub character-in-alphabet : (v : ℕ) → v < 64 → inAlphabet (character v) ≡ true
+character-in-alphabet v h = rw (value-character v h) (lt-ltb v 64 h)
