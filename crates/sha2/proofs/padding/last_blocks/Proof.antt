@@ -1,0 +1,60 @@
+-- `sha2::padding::last_blocks` meets its contract.
+use mathlib.Core.Path.{refl, ap, _∙_}
+use Prim.Native.Nat.{_-_, _*_}
+use native.Mathlib.Omega.{arith}
+use borrow.Author.Needs.{needs}
+use lib.ListN.{length, length-set}
+use Rattle.common.specs.BigEndian.{length-bigEndian}
+use Rattle.sha2.specs.Parameters.{sha-256}
+use Rattle.sha2.proofs.PaddedLaws.{modulo, ends, last}
+use Rattle.sha2.proofs.padding.last_blocks.Statement.{statement}
+use Rattle.sha2.proofs.padding.last_blocks.Tie as tie
+
+slice-aggregate-copy-at : tie.Need-slice-aggregate-copy-at
+slice-aggregate-copy-at c = search needs
+
+copy-at-requires : tie.Need-copy-at-requires
+copy-at-requires c κs = search needs
+
+array-write-d : tie.Need-array-write-d
+array-write-d c = search needs
+
+eight-bytes-requires : tie.Need-eight-bytes-requires
+eight-bytes-requires c κs = search needs
+
+slice-aggregate-copy-at-2 : tie.Need-slice-aggregate-copy-at-2
+slice-aggregate-copy-at-2 c = search needs
+
+sub-copy-at : tie.Need-sub-copy-at
+sub-copy-at c =
+    let s = c .before .before .before .before .before .before in
+    omega (arith, ends (s .args .r .now) (s .args .total) (s .pre .0))
+
+slice-aggregate-copy-at-3 : tie.Need-slice-aggregate-copy-at-3
+slice-aggregate-copy-at-3 c = search needs
+
+copy-at-requires-2 : tie.Need-copy-at-requires-2
+copy-at-requires-2 c κs =
+    let s = c .before .before .before .before .before .before .before in
+    simp length-set (omega (arith, ends (s .args .r .now) (s .args .total) (s .pre .0), ap length (c .before .before .eight-bytes .ensures) ∙ length-bigEndian 8 _))
+
+returns : tie.Need-returns
+returns c =
+    let s = c .before .before .before .before .before .before .before .before .before in
+    let a = s .args in
+    last sha-256 128 (a .total) (a .end - 8) (a .end) (a .r .now) _ _ _ (s .pre .1) (omega (arith, ends (a .r .now) (a .total) (s .pre .0))) refl
+    (c .before .before .before .before .eight-bytes .ensures ∙ modulo 8 (a .total * 8)) (c .before .before .before .before .before .before .copy-at .ensures) (c .before .copy-at2 .ensures)
+
+pub last-blocks-spec : {M : Type 1} → statement M
+last-blocks-spec =
+    tie.close
+    (tie.spec
+    slice-aggregate-copy-at
+    copy-at-requires
+    array-write-d
+    eight-bytes-requires
+    slice-aggregate-copy-at-2
+    sub-copy-at
+    slice-aggregate-copy-at-3
+    copy-at-requires-2
+    returns)
