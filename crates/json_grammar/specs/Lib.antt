@@ -1,0 +1,23 @@
+-- The JSON header. Definitions: its grammar, readings and places; a reader on lists, and a scan for names twice.
+pub mod Bytes
+pub mod Value
+pub mod Grammar
+pub mod Places
+pub mod Shown
+pub mod Reader
+pub mod Levels
+pub mod Scan
+-- Theorems: what is derived is read (Complete), what is read is derived (Sound), a text has one reading (Unique),
+-- the bytes at a member's places are its name and value (ShownLaws), the scan finds names twice (ScanLaws).
+pub mod ByteLaws
+pub mod ReaderLaws
+pub mod Written
+pub mod CharLaws
+pub mod NumberLaws
+pub mod Readings
+pub mod Complete
+pub mod Sound
+pub mod Unique
+pub mod ShownLaws
+pub mod ScanLaws
+pub mod Examples

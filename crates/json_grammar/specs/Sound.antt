@@ -1,0 +1,336 @@
+-- What the reader reads, the grammar derives, within the depth, with the located members that the reader gives.
+use mathlib.Core.Path.{_≡_, refl, sym, ap, _∙_}
+use mathlib.Core.Bool.{Bool, true, false}
+use mathlib.Core.List.{List, [], _∷_, _++_}
+use mathlib.Core.Logic.{_⊎_, inl, inr, ⊎-elim}
+use Prim.Native.Nat.{ℕ, zero, suc, _≤_}
+use native.Mathlib.Omega.{arith}
+use lib.Dec.{eqb}
+use lib.ListN.{length}
+use borrow.Author.Tests.{eqb-true}
+use Rattle.json_grammar.specs.Bytes.{isWs}
+use Rattle.json_grammar.specs.Value.{depth, depthValues, depthMembers, LValue, LItem, LItems, LMembers, stringL, numberL, trueL, falseL, nullL}
+use Rattle.json_grammar.specs.Value.{arrayL, objectL, inil, icons, named, lnil, lcons}
+use Rattle.json_grammar.specs.Grammar.{none, Ws, Token, Chars, ValueTree, falseT, nullT, trueT, objectT, arrayT, numberT, stringT}
+use Rattle.json_grammar.specs.Grammar.{ObjectTree, object0, objectOf, MemberTree, pair, MembersTail, mend, mmore, ArrayTree, array0, arrayOf}
+use Rattle.json_grammar.specs.Grammar.{ElementsTail, eend, emore, Derivation}
+use Rattle.json_grammar.specs.Grammar.{yieldMany, yieldToken, yieldChars, yieldString, yieldNumber, yieldValue, yieldObject, yieldMember}
+use Rattle.json_grammar.specs.Grammar.{yieldMembers, yieldArray, yieldElements, bytes}
+use Rattle.json_grammar.specs.Grammar.{readingValue, readingObject, readingMember, readingMembers, readingArray, readingElements, readingOf}
+use Rattle.json_grammar.specs.Grammar.{depthOf, membersOf}
+use Rattle.json_grammar.specs.Reader.{got, then, over, expect, ws, readChars, pastNumber, upTo, readNumber, word, ValueLead, valueLead, ends-by}
+use Rattle.json_grammar.specs.Reader.{readObject, readValue, readMoreElements, readMoreMembers, read}
+use Rattle.json_grammar.specs.Reader
+use Rattle.json_grammar.specs.ByteLaws.{by-byte}
+use Rattle.json_grammar.specs.ReaderLaws.{no-bad, then-inv, over-inv, expect-inv, deeper-inv, placed-inv, ends-inv, word-inv, skipped, readValue-ws}
+use Rattle.json_grammar.specs.Levels.{readBare, readElements, readInArray, readMember, readMembers, readInObject}
+use Rattle.json_grammar.specs.NumberLaws.{number-sound}
+use Rattle.json_grammar.specs.CharLaws.{chars-sound}
+use Rattle.json_grammar.specs.Complete.{depthMember, member-depth, complete}
+
+-- WHAT IS TAKEN, as the grammar has it
+
+-- a value with white space on either side
+pub record FoundValue (d : ℕ) (s r : List ℕ) : Type 0 where
+  pub before : Ws
+  pub tree : ValueTree
+  pub after : Ws
+  pub derives : s ≡ yieldMany before (yieldValue tree (yieldMany after r))
+  pub deep : depth (readingValue tree) ≤ d
+
+-- a closing bracket or brace, with white space before it only
+abbrev closing : Ws → Token
+closing w = record { before = w; after = none }
+
+-- further elements and the closing bracket, after white space w; so with members
+pub record FoundElements (d : ℕ) (w : Ws) (s r : List ℕ) : Type 0 where
+  pub tree : ElementsTail
+  pub last : Ws
+  pub derives : yieldMany w s ≡ yieldElements tree (yieldToken 0x5D (closing last) r)
+  pub deep : depthValues (readingElements tree) ≤ d
+
+pub record FoundMembers (d : ℕ) (w : Ws) (s r : List ℕ) : Type 0 where
+  pub tree : MembersTail
+  pub last : Ws
+  pub derives : yieldMany w s ≡ yieldMembers tree (yieldToken 0x7D (closing last) r)
+  pub deep : depthMembers (readingMembers tree) ≤ d
+
+-- a first element and the others; a first member and the others
+record FirstElement (d : ℕ) (s r : List ℕ) : Type 0 where
+  before : Ws
+  first : ValueTree
+  tree : ElementsTail
+  last : Ws
+  derives : s ≡ yieldMany before (yieldValue first (yieldElements tree (yieldToken 0x5D (closing last) r)))
+  first-deep : depth (readingValue first) ≤ d
+  deep : depthValues (readingElements tree) ≤ d
+
+record FirstMember (d : ℕ) (s r : List ℕ) : Type 0 where
+  first : MemberTree
+  tree : MembersTail
+  last : Ws
+  derives : s ≡ yieldMember first (yieldMembers tree (yieldToken 0x7D (closing last) r))
+  first-deep : depthMember first ≤ d
+  deep : depthMembers (readingMembers tree) ≤ d
+
+-- an array, an object and a value with no white space around them
+abbrev FoundArray : ℕ → List ℕ → List ℕ → Type 0
+FoundArray d s r = (a : ArrayTree) × (s ≡ yieldArray a r) × (depthValues (readingArray a) ≤ d)
+
+abbrev FoundObject : ℕ → List ℕ → List ℕ → Type 0
+FoundObject d s r = (o : ObjectTree) × (s ≡ yieldObject o r) × (depthMembers (readingObject o) ≤ d)
+
+abbrev FoundBare : ℕ → List ℕ → List ℕ → Type 0
+FoundBare d s r = (v : ValueTree) × (s ≡ yieldValue v r) × (depth (readingValue v) ≤ d)
+
+-- white space that was skipped before x
+spaced : (s x : List ℕ) → ws s ≡ x → s ≡ yieldMany (skipped isWs s .0) x
+spaced s x e = skipped isWs s .1 ∙ ap (yieldMany (skipped isWs s .0)) e
+
+-- ONE LEVEL, from what the readers below it take
+
+-- what is known of the readers with fuel n
+record Below (n : ℕ) : Type 0 where
+  value : (d : ℕ) (s : List ℕ) (v : LItem) (r : List ℕ) → readValue n d s ≡ got v r → FoundValue d s r
+  elements : (d : ℕ) (w : Ws) (s : List ℕ) (vs : LItems) (r : List ℕ) → readMoreElements n d s ≡ got vs r → FoundElements d w s r
+  members : (d : ℕ) (w : Ws) (s : List ℕ) (ms : LMembers) (r : List ℕ) → readMoreMembers n d s ≡ got ms r → FoundMembers d w s r
+
+module _ (n : ℕ) (below : Below n) where
+  elements-sound : (d : ℕ) (s : List ℕ) (vs : LItems) (r : List ℕ) → readElements n d s ≡ got vs r → FirstElement d s r
+  elements-sound d s vs r e =
+      let i = then-inv (readValue n d s) (λ v y. over (icons v) (readMoreElements n d y)) vs r e in
+      let j = over-inv (icons (i .0)) (readMoreElements n d (i .1)) vs r (i .3) in
+      join (i .1) (below .value d s (i .0) (i .1) (i .2)) (λ w. below .elements d w (i .1) (j .0) r (j .1))
+    where
+      join : (y : List ℕ) → FoundValue d s y → ((w : Ws) → FoundElements d w y r) → FirstElement d s r
+      join y a f =
+          let b = f (a .after) in
+          record {
+            before = a .before;
+            first = a .tree;
+            tree = b .tree;
+            last = b .last;
+            derives = a .derives ∙ ap (λ (l : List ℕ). yieldMany (a .before) (yieldValue (a .tree) l)) (b .derives);
+            first-deep = a .deep;
+            deep = b .deep;
+          }
+
+  members-sound : (d : ℕ) (s : List ℕ) (ms : LMembers) (r : List ℕ) → readMembers n d s ≡ got ms r → FirstMember d s r
+  unfolding depthMembers readingMember yieldMember yieldString yieldToken
+  members-sound d s ms r e =
+      let i = then-inv (readMember n d s) (λ m y. over (lcons m) (readMoreMembers n d y)) ms r e in
+      let j = over-inv (lcons (i .0)) (readMoreMembers n d (i .1)) ms r (i .3) in
+      let m = i .0 in
+      let y = i .1 in
+      let k₁ = expect-inv 0x22 s (λ f. then (readChars n f) (λ cs z. expect 0x3A (ws z) (λ x. over (named f (0x22 ∷ z) cs) (readValue n d x)))) m y (i .2) in
+      let f = k₁ .0 in
+      let k₂ = then-inv (readChars n f) (λ cs z. expect 0x3A (ws z) (λ x. over (named f (0x22 ∷ z) cs) (readValue n d x))) m y (k₁ .2) in
+      let k₃ = expect-inv 0x3A (ws (k₂ .1)) (λ x. over (named f (0x22 ∷ k₂ .1) (k₂ .0)) (readValue n d x)) m y (k₂ .3) in
+      let k₄ = over-inv (named f (0x22 ∷ k₂ .1) (k₂ .0)) (readValue n d (k₃ .0)) m y (k₃ .2) in
+      join f (k₂ .1) (k₃ .0) y (k₁ .1) (chars-sound n f (k₂ .0) (k₂ .1) (k₂ .2)) (k₃ .1)
+      (below .value d (k₃ .0) (k₄ .0) y (k₄ .1)) (λ w. below .members d w y (j .0) r (j .1))
+    where
+      join : (f z x y : List ℕ) → s ≡ 0x22 ∷ f → (cs : Chars) × (f ≡ yieldChars cs (0x22 ∷ z)) → ws z ≡ 0x3A ∷ x
+          → FoundValue d x y → ((w : Ws) → FoundMembers d w y r) → FirstMember d s r
+      join f z x y p c q a g =
+          let u = skipped isWs z .0 in
+          let b = g (a .after) in
+          record {
+            first = pair (c .0) (record { before = u; after = a .before }) (a .tree);
+            tree = b .tree;
+            last = b .last;
+            derives =
+                p ∙ ap (λ (l : List ℕ). 0x22 ∷ l) (c .1 ∙ ap (λ (l : List ℕ). yieldChars (c .0) (0x22 ∷ l)) (spaced z (0x3A ∷ x) q
+                ∙ ap (λ (l : List ℕ). yieldMany u (0x3A ∷ l)) (a .derives ∙ ap (λ (l : List ℕ). yieldMany (a .before) (yieldValue (a .tree) l)) (b .derives))));
+            first-deep = omega (arith, a .deep);
+            deep = b .deep;
+          }
+
+  -- an array from its first bracket on, an object from its first brace on
+  array-inv : (d : ℕ) (s : List ℕ) (vs : LItems) (r : List ℕ) → readInArray n d s ≡ got vs r → (s ≡ 0x5D ∷ r) ⊎ (readElements n d s ≡ got vs r)
+  array-inv d [] vs r e = no-bad e
+  array-inv d (b ∷ s) vs r e = go (eqb b 0x5D) refl
+    where
+      go : (t : Bool) → eqb b 0x5D ≡ t → (b ∷ s ≡ 0x5D ∷ r) ⊎ (readElements n d (b ∷ s) ≡ got vs r)
+      go true h = let z = eqb-true b 0x5D h in let f : got inil s ≡ got vs r = rw h at e in inl (cc (z, f))
+      go false h = inr (rw h at e)
+
+  array-sound : (d : ℕ) (s : List ℕ) (vs : LItems) (r : List ℕ) → readInArray n d (ws s) ≡ got vs r → FoundArray d (0x5B ∷ s) r
+  unfolding yieldArray yieldToken yieldMany readingArray depthValues
+  array-sound d s vs r e = ⊎-elim empty some (array-inv d (ws s) vs r e)
+    where
+      empty : ws s ≡ 0x5D ∷ r → FoundArray d (0x5B ∷ s) r
+      empty p = (array0 (record { before = none; after = skipped isWs s .0 }) (closing none), ap (λ (l : List ℕ). 0x5B ∷ l) (spaced s (0x5D ∷ r) p), omega arith)
+
+      some : readElements n d (ws s) ≡ got vs r → FoundArray d (0x5B ∷ s) r
+      some f =
+          let a = elements-sound d s vs r (rw (readValue-ws n d s) at f) in (
+            arrayOf (record { before = none; after = a .before }) (a .first) (a .tree) (closing (a .last)),
+            ap (λ (l : List ℕ). 0x5B ∷ l) (a .derives),
+            omega (arith, a .first-deep, a .deep),
+          )
+
+  object-inv : (d : ℕ) (s : List ℕ) (ms : LMembers) (r : List ℕ) → readInObject n d s ≡ got ms r → (s ≡ 0x7D ∷ r) ⊎ (readMembers n d s ≡ got ms r)
+  object-inv d [] ms r e = no-bad e
+  object-inv d (b ∷ s) ms r e = go (eqb b 0x7D) refl
+    where
+      go : (t : Bool) → eqb b 0x7D ≡ t → (b ∷ s ≡ 0x7D ∷ r) ⊎ (readMembers n d (b ∷ s) ≡ got ms r)
+      go true h = let z = eqb-true b 0x7D h in let f : got lnil s ≡ got ms r = rw h at e in inl (cc (z, f))
+      go false h = inr (rw h at e)
+
+  object-sound : (d : ℕ) (s : List ℕ) (ms : LMembers) (r : List ℕ) → readInObject n d (ws s) ≡ got ms r → FoundObject d (0x7B ∷ s) r
+  unfolding yieldObject yieldToken yieldMany readingObject depthMembers
+  object-sound d s ms r e = ⊎-elim empty some (object-inv d (ws s) ms r e)
+    where
+      w : Ws
+      w = skipped isWs s .0
+
+      empty : ws s ≡ 0x7D ∷ r → FoundObject d (0x7B ∷ s) r
+      empty p = (object0 (record { before = none; after = w }) (closing none), ap (λ (l : List ℕ). 0x7B ∷ l) (spaced s (0x7D ∷ r) p), omega arith)
+
+      some : readMembers n d (ws s) ≡ got ms r → FoundObject d (0x7B ∷ s) r
+      some f =
+          let a = members-sound d (ws s) ms r f in (
+            objectOf (record { before = none; after = w }) (a .first) (a .tree) (closing (a .last)),
+            ap (λ (l : List ℕ). 0x7B ∷ l) (spaced s _ (a .derives)),
+            omega (arith, member-depth (a .first) (readingMembers (a .tree)), a .first-deep, a .deep),
+          )
+
+  -- a value with no white space around it
+  value-sound : (d : ℕ) (s : List ℕ) (v : LValue) (r : List ℕ) → readBare n d s ≡ got v r → FoundBare d s r
+  unfolding valueLead yieldValue yieldString readingValue depth
+  value-sound d [] v r e = no-bad e
+  value-sound d (b ∷ s) v r e =
+      by-byte P b 0x22 string (by-byte P b 0x5B array (by-byte P b 0x7B object
+      (by-byte P b 0x74 true-word (by-byte P b 0x66 false-word (by-byte P b 0x6E null-word number))))) e
+    where
+      P : ValueLead → Type 0
+      P l =
+          Reader.value-by n (λ e r. readValue n e r) (λ e r. readMoreElements n e r) (λ e r. readMoreMembers n e r) d l b s ≡ got v r
+          → FoundBare d (b ∷ s) r
+
+      string : b ≡ 0x22 → over stringL (readChars n s) ≡ got v r → FoundBare d (b ∷ s) r
+      string h f = let i = over-inv stringL (readChars n s) v r f in let c = chars-sound n s (i .0) r (i .1) in (stringT (c .0), cc (h, c .1), omega arith)
+
+      array : b ≡ 0x5B → over arrayL (Reader.deeper d (λ e. readInArray n e (ws s))) ≡ got v r → FoundBare d (b ∷ s) r
+      array h f =
+          let i = over-inv arrayL (Reader.deeper d (λ e. readInArray n e (ws s))) v r f in
+          let j = deeper-inv d (λ e. readInArray n e (ws s)) (i .0) r (i .1) in
+          let a = array-sound (j .0) s (i .0) r (j .2) in
+          (arrayT (a .0), rw h (a .1), omega (arith, a .2, j .1))
+
+      object : b ≡ 0x7B → over objectL (readObject n d s) ≡ got v r → FoundBare d (b ∷ s) r
+      object h f =
+          let i = over-inv objectL (readObject n d s) v r f in
+          let j = deeper-inv d (λ e. readInObject n e (ws s)) (i .0) r (i .1) in
+          let o = object-sound (j .0) s (i .0) r (j .2) in
+          (objectT (o .0), rw h (o .1), omega (arith, o .2, j .1))
+
+      word-is : (x : ℕ) (xs : List ℕ) (l : LValue) → b ≡ x → over (λ _. l) (word xs s) ≡ got v r → b ∷ s ≡ x ∷ (xs ++ r)
+      word-is x xs l h f = let i = over-inv (λ _. l) (word xs s) v r f in cc (h, word-inv xs s r (i .1))
+
+      true-word : b ≡ 0x74 → over (λ _. trueL) (word (0x72 ∷ 0x75 ∷ 0x65 ∷ []) s) ≡ got v r → FoundBare d (b ∷ s) r
+      true-word h f = (trueT, word-is _ _ trueL h f, omega arith)
+
+      false-word : b ≡ 0x66 → over (λ _. falseL) (word (0x61 ∷ 0x6C ∷ 0x73 ∷ 0x65 ∷ []) s) ≡ got v r → FoundBare d (b ∷ s) r
+      false-word h f = (falseT, word-is _ _ falseL h f, omega arith)
+
+      null-word : b ≡ 0x6E → over (λ _. nullL) (word (0x75 ∷ 0x6C ∷ 0x6C ∷ []) s) ≡ got v r → FoundBare d (b ∷ s) r
+      null-word h f = (nullT, word-is _ _ nullL h f, omega arith)
+
+      number : over numberL (readNumber (b ∷ s)) ≡ got v r → FoundBare d (b ∷ s) r
+      number f =
+          let i = over-inv numberL (readNumber (b ∷ s)) v r f in
+          let j = then-inv (pastNumber (b ∷ s)) (λ _ y. got (upTo (b ∷ s) y) y) (i .0) r (i .1) in
+          let z : j .1 ≡ r = cc (j .3) in
+          let x = number-sound (b ∷ s) (j .1) (j .2) in
+          (numberT (x .0), x .1 ∙ ap (yieldNumber (x .0)) z, omega arith)
+
+  more-elements-sound : (d : ℕ) (w : Ws) (s : List ℕ) (vs : LItems) (r : List ℕ) → readMoreElements (suc n) d s ≡ got vs r → FoundElements d w s r
+  unfolding readMoreElements readingElements depthValues yieldElements yieldToken yieldMany
+  more-elements-sound d w [] vs r e = no-bad e
+  more-elements-sound d w (b ∷ s) vs r e = go (eqb b 0x5D) refl (eqb b 0x2C) refl
+    where
+      next : b ≡ 0x2C → FirstElement d s r → FoundElements d w (b ∷ s) r
+      next z a =
+          record {
+            tree = emore (record { before = w; after = a .before }) (a .first) (a .tree);
+            last = a .last;
+            derives = ap (yieldMany w) (cc (z, a .derives));
+            deep = omega (arith, a .first-deep, a .deep);
+          }
+
+      go : (t : Bool) → eqb b 0x5D ≡ t → (u : Bool) → eqb b 0x2C ≡ u → FoundElements d w (b ∷ s) r
+      go true h u k =
+          let z = eqb-true b 0x5D h in
+          let f : got inil s ≡ got vs r = rw h at e in
+          record { tree = eend; last = w; derives = ap (yieldMany w) (cc (z, f)); deep = omega arith }
+      go false h true k = next (eqb-true b 0x2C k) (elements-sound d s vs r (rw (h, k) at e))
+      go false h false k = no-bad (rw (h, k) at e)
+
+  more-members-sound : (d : ℕ) (w : Ws) (s : List ℕ) (ms : LMembers) (r : List ℕ) → readMoreMembers (suc n) d s ≡ got ms r → FoundMembers d w s r
+  unfolding readMoreMembers readingMembers depthMembers yieldMembers yieldToken yieldMany
+  more-members-sound d w [] ms r e = no-bad e
+  more-members-sound d w (b ∷ s) ms r e = go (eqb b 0x7D) refl (eqb b 0x2C) refl
+    where
+      next : b ≡ 0x2C → FirstMember d (ws s) r → FoundMembers d w (b ∷ s) r
+      next z a =
+          record {
+            tree = mmore (record { before = w; after = skipped isWs s .0 }) (a .first) (a .tree);
+            last = a .last;
+            derives = ap (yieldMany w) (cc (z, spaced s _ (a .derives)));
+            deep = omega (arith, member-depth (a .first) (readingMembers (a .tree)), a .first-deep, a .deep);
+          }
+
+      go : (t : Bool) → eqb b 0x7D ≡ t → (u : Bool) → eqb b 0x2C ≡ u → FoundMembers d w (b ∷ s) r
+      go true h u k =
+          let z = eqb-true b 0x7D h in
+          let f : got lnil s ≡ got ms r = rw h at e in
+          record { tree = mend; last = w; derives = ap (yieldMany w) (cc (z, f)); deep = omega arith }
+      go false h true k = next (eqb-true b 0x2C k) (members-sound d (ws s) ms r (rw (h, k) at e))
+      go false h false k = no-bad (rw (h, k) at e)
+
+  spaced-value-sound : (d : ℕ) (s : List ℕ) (v : LItem) (r : List ℕ) → readValue (suc n) d s ≡ got v r → FoundValue d s r
+  unfolding readValue
+  spaced-value-sound d s v r e =
+      let i = placed-inv (ws s) (readBare n d (ws s)) v r e in
+      let t = value-sound d (ws s) (i .0) (i .1) (i .2) in
+      record {
+        before = skipped isWs s .0;
+        tree = t .0;
+        after = skipped isWs (i .1) .0;
+        derives = spaced s _ (t .1 ∙ ap (yieldValue (t .0)) (spaced (i .1) r (i .3)));
+        deep = t .2;
+      }
+
+-- THE LEVELS TIED
+
+levels : (n : ℕ) → Below n
+unfolding readValue
+levels zero = record { value = λ d s v r e. no-bad e; elements = λ d w s vs r e. no-bad e; members = λ d w s ms r e. no-bad e }
+levels (suc n) = record { value = spaced-value-sound n (levels n); elements = more-elements-sound n (levels n); members = more-members-sound n (levels n) }
+
+-- s is derived, at most d deep
+abbrev pub Derived : ℕ → List ℕ → Type 0
+Derived d s = (t : Derivation) × (bytes t ≡ s) × (depthOf t ≤ d)
+
+pub derived : (d : ℕ) (s : List ℕ) (ms : LMembers) (r : List ℕ) → read d s ≡ got ms r → Derived d s
+unfolding read bytes depthOf readingOf depth
+derived d s ms r e =
+    let n = length s in
+    let i = expect-inv 0x7B (ws s) (λ x. then (readObject n d x) (λ ms y. ends-by ms (ws y))) ms r e in
+    let j = then-inv (readObject n d (i .0)) (λ ms y. ends-by ms (ws y)) ms r (i .2) in
+    let k = deeper-inv d (λ e. readInObject n e (ws (i .0))) (j .0) (j .1) (j .2) in
+    let o = object-sound n (levels n) (k .0) (i .0) (j .0) (j .1) (k .2) in
+    let f = ends-inv (j .0) (ws (j .1)) ms r (j .3) in
+    join (i .0) (j .1) (o .0) (i .1) (o .1) (f .0) (omega (arith, o .2, k .1))
+  where
+    join : (x y : List ℕ) (o : ObjectTree) → ws s ≡ 0x7B ∷ x → 0x7B ∷ x ≡ yieldObject o y → ws y ≡ [] → suc (depthMembers (readingObject o)) ≤ d → Derived d s
+    join x y o p q e k =
+        let w = skipped isWs y .0 in
+        (record { before = skipped isWs s .0; top = o; after = w }, sym (spaced s (yieldObject o (yieldMany w [])) (p ∙ q ∙ ap (yieldObject o) (spaced y [] e))), k)
+
+-- SOUND: what is read is derived within the depth, and the derivation has the members where the reader found them
+pub sound : (d : ℕ) (s : List ℕ) (ms : LMembers) (r : List ℕ) → read d s ≡ got ms r
+    → (t : Derivation) × (bytes t ≡ s) × (membersOf t ≡ ms) × (depthOf t ≤ d) × (r ≡ [])
+sound d s ms r e = let t = derived d s ms r e in let c = complete d (t .0) (t .2) in (t .0, t .1, cc (e, t .1, c), t .2, cc (e, t .1, c))
