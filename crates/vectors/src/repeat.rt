@@ -1,0 +1,20 @@
+// The hash of one byte many times over, part by part: a part is whole blocks, so that no message buffer is needed.
+use crate::text;
+ghost use Prim.Native.Nat.{_≤_};
+
+pub fn sha256(count: usize, x: u8) -> [u8; 32]
+    requires { ⌜ count ≤ 1000000 ⌝ }
+{
+    let k = sha2::constants();
+    let mut part = [0u8; 6400];
+    text::fill(&mut part, x);
+    let mut state = sha2::initial();
+    let mut done: usize = 0;
+    while 6400 <= count - done {
+        let next = sha2::absorb(state, &k, &part);
+        state = next;
+        done += 6400;
+    }
+    let rest = count - done;
+    sha2::hash_after(state, &k, done, &part[0..rest])
+}
