@@ -1,0 +1,111 @@
+//! Specification, "On both sides of the line", row by row.
+
+mod common;
+
+use common::{entry, header_answer, one_key, rfc7515_secret, sign, table, token, verify, SECRET};
+use reference::base64url::{decode, encode, Fault};
+use reference::json::{self, Value};
+
+#[test]
+fn segments() {
+    assert_eq!(encode(&[36, 46, 48, 50]), "JC4wMg");
+    assert_eq!(decode(b"JC4wMh"), Err(Fault { place: 5 }));
+    assert_eq!(decode(b"JC4wM"), Err(Fault { place: 5 }));
+    assert_eq!(decode(b""), Ok(vec![]));
+    let header = encode(b"{\"alg\":\"HS256\"}");
+    let answer = |payload: &str| verify(format!("{header}.{payload}.").as_bytes(), &one_key()).answer;
+    assert_eq!(answer("JC4wMg"), 15);
+    assert_eq!(answer("JC4wMh"), 4);
+    assert_eq!(answer("JC4wM"), 4);
+    assert_eq!(answer(""), 15);
+}
+
+#[test]
+fn headers() {
+    assert_eq!(json::read(b"{\"alg\":\"HS256\"}").unwrap().len(), 1);
+    for (header, answer) in [
+        (r#"{"alg":"HS256"}"#, 0),
+        (r#"{"alg":"HS256","al\u0067":"HS256"}"#, 8),
+        (r#"{"alg":"HS256",}"#, 7),
+        (r#"{"alg":"HS256","x":"\uDD1E"}"#, 7),
+        (r#"{"alg":"HS256","fmt":2}"#, 10),
+        (r#"{"alg":"HS256","crit":["fmt"],"fmt":1e0}"#, 9),
+        (r#"{"alg":"HS256","x":[ ]}"#, 0),
+    ] {
+        assert_eq!(header_answer(header), answer, "{header}");
+    }
+    let members = json::read(br#"{"alg":"HS256","x":[ ]}"#).unwrap();
+    assert_eq!(members[1].value, Value::Array(vec![]));
+    assert_eq!(members[1].words(), [6, 16, 17, 19, 22]);
+}
+
+#[test]
+fn nesting() {
+    let header = |arrays: usize| {
+        format!(
+            "{{\"alg\":\"HS256\",\"x\":{}{}}}",
+            "[".repeat(arrays),
+            "]".repeat(arrays)
+        )
+    };
+    assert_eq!(header_answer(header(7)), 0);
+    assert_eq!(header_answer(header(8)), 7);
+}
+
+#[test]
+fn token_lengths() {
+    // 20 characters of header and 43 of signature leave 16,319 for the payload.
+    let header = "{\"alg\":\"HS256\"}";
+    let longest = token(header, vec![b'p'; 12_239], SECRET);
+    assert_eq!(longest.len(), 16_384);
+    assert_eq!(verify(&longest, &one_key()).answer, 0);
+    assert_eq!(verify(&[&longest[..], b"A"].concat(), &one_key()).answer, 1);
+    assert_eq!(sign(header.as_bytes(), &[b'p'; 12_239], &one_key()), (0, longest));
+    assert_eq!(sign(header.as_bytes(), &[b'p'; 12_240], &one_key()).0, 1);
+    assert_eq!(verify(&[b'A'; 16_384], &one_key()).answer, 3);
+    assert_eq!(verify(&[b'A'; 16_385], &one_key()).answer, 1);
+}
+
+#[test]
+fn header_lengths() {
+    let header = |length: usize| format!("{:length$}", "{\"alg\":\"HS256\"}");
+    assert_eq!(encode(header(1_024).as_bytes()).len(), 1_366);
+    assert_eq!(header_answer(header(1_024)), 0);
+    assert_eq!(header_answer(header(1_025)), 5);
+}
+
+#[test]
+fn shortest_tokens() {
+    assert_eq!(verify(b"", &one_key()).answer, 3);
+    assert_eq!(verify(b"..", &one_key()).answer, 7);
+    let empty_table = [0, 1, 0, 0, 0, 0, 0, 8];
+    assert_eq!(verify(b"", &empty_table).answer, 3);
+    assert_eq!(verify(b"..", &empty_table).answer, 7);
+}
+
+/// The line of the specification's small program.
+fn program(token: &[u8], table: &[u8]) -> String {
+    let verified = verify(token, table);
+    let record = verified.record;
+    match verified.answer {
+        0 => format!(
+            "accepted key={} fmt={} payload={}",
+            record.key_index, record.format, record.payload_length
+        ),
+        answer => format!("refused {answer}"),
+    }
+}
+
+#[test]
+fn first_example() {
+    let token: &[u8] = b"eyJ0eXAiOiJKV1QiLA0KICJhbGciOiJIUzI1NiJ9\
+        .eyJpc3MiOiJqb2UiLA0KICJleHAiOjEzMDA4MTkzODAsDQogImh0dHA6Ly9leGFtcGxlLmNvbS9pc19yb290Ijp0cnVlfQ\
+        .dBjftJeZ4CVP-mB92K27uhbUJU1p1r_wW1gFWFOEjXk";
+    assert_eq!(token.len(), 179);
+    let table = table(&[entry("k", &rfc7515_secret(), 1)]);
+    assert_eq!(program(token, &table), "accepted key=0 fmt=1 payload=70");
+    assert_eq!(program(&[token, b"\n"].concat(), &table), "refused 4");
+    assert_eq!(program(token, b""), "refused 2");
+    assert_eq!(program(b"", &table), "refused 3");
+    assert_eq!(program(b"", b""), "refused 2");
+}
