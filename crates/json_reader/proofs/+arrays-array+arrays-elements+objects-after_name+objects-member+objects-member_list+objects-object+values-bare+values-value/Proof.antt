@@ -1,0 +1,200 @@
+-- The readers that call one another meet their contracts.
+use Prim.Native.Nat.{ℕ, _<_, _≤_, _-_, _*_, _+_}
+use native.Mathlib.Omega.{arith}
+use borrow.Author.Needs.{needs}
+use lib.ListN.{length}
+use Rattle.json_string.specs.declared.End.{End}
+use Rattle.json_reader.specs.Contracts.{ElementsEnd, MembersEnd}
+use Rattle.json_reader.specs.EndsLaws.{ended, bounds}
+use Rattle.json_reader.proofs.CycleLaws as law
+use borrow.Fn.Kinds.{In}
+use borrow.Fn.PlainCycle.{Measures, is, falls, and}
+use Rattle.json_reader.proofs.arrays.array.Reads as array
+use Rattle.json_reader.proofs.+arrays-array+arrays-elements+objects-after_name+objects-member+objects-member_list+objects-object+values-bare+values-value.Lts-arrays-array as array-lts
+use Rattle.json_reader.proofs.arrays.elements.Reads as elements
+use Rattle.json_reader.proofs.+arrays-array+arrays-elements+objects-after_name+objects-member+objects-member_list+objects-object+values-bare+values-value.Lts-arrays-elements as elements-lts
+use Rattle.json_reader.proofs.objects.after_name.Reads as after-name
+use Rattle.json_reader.proofs.+arrays-array+arrays-elements+objects-after_name+objects-member+objects-member_list+objects-object+values-bare+values-value.Lts-objects-after_name as after-name-lts
+use Rattle.json_reader.proofs.objects.member.Reads as member
+use Rattle.json_reader.proofs.+arrays-array+arrays-elements+objects-after_name+objects-member+objects-member_list+objects-object+values-bare+values-value.Lts-objects-member as member-lts
+use Rattle.json_reader.proofs.objects.member_list.Reads as member-list
+use Rattle.json_reader.proofs.+arrays-array+arrays-elements+objects-after_name+objects-member+objects-member_list+objects-object+values-bare+values-value.Lts-objects-member_list as member-list-lts
+use Rattle.json_reader.proofs.objects.object.Reads as object
+use Rattle.json_reader.proofs.+arrays-array+arrays-elements+objects-after_name+objects-member+objects-member_list+objects-object+values-bare+values-value.Lts-objects-object as object-lts
+use Rattle.json_reader.proofs.values.bare.Reads as bare
+use Rattle.json_reader.proofs.+arrays-array+arrays-elements+objects-after_name+objects-member+objects-member_list+objects-object+values-bare+values-value.Lts-values-bare as bare-lts
+use Rattle.json_reader.proofs.values.value.Reads as value
+use Rattle.json_reader.proofs.values.value.Kinds as value-kinds
+use Rattle.json_reader.proofs.+arrays-array+arrays-elements+objects-after_name+objects-member+objects-member_list+objects-object+values-bare+values-value.Lts-values-value as value-lts
+use Rattle.json_reader.proofs.numbers.number_end.Reads as number-end-reads
+use Rattle.json_reader.proofs.spaces.skip_ws.Reads as skip-ws-reads
+use Rattle.json_reader.proofs.words.word_end.Reads as word-end-reads
+use Rattle.json_string.proofs.string_end.Reads as string-end-reads
+use Rattle.json_reader.proofs.+arrays-array+arrays-elements+objects-after_name+objects-member+objects-member_list+objects-object+values-bare+values-value.{statement}
+use Rattle.json_reader.proofs.+arrays-array+arrays-elements+objects-after_name+objects-member+objects-member_list+objects-object+values-bare+values-value.Tie.{close}
+
+-- at each call the bytes left fall, or else the weight does
+abbrev weight : ℕ → Measures 1 value-kinds.ps ℕ
+weight w κs a = 8 * (length (a .0 .now) - a .1 .0) + w
+
+abbrev entered : ℕ → In 1 value-kinds.ps → ℕ → In 1 value-kinds.ps
+entered w pre t = and 1 value-kinds.ps (is 1 value-kinds.ps (weight w) t) pre
+
+abbrev called : ℕ → In 1 value-kinds.ps → ℕ → In 1 value-kinds.ps
+called w pre t = and 1 value-kinds.ps (falls 1 value-kinds.ps _<_ (weight w) t) pre
+
+-- what is right for the rest of a list is right for the whole
+abbrev Inv-elements : elements-lts.InvT-loop
+Inv-elements s from depth at₀ at = (from ≤ at) × (at ≤ length s) × ((r : End) → ElementsEnd s at depth r → ElementsEnd s from depth r)
+
+abbrev μ-elements : elements-lts.MeasureT-loop
+μ-elements s from depth at₀ at = length s - at
+
+abbrev Inv-member-list : member-list-lts.InvT-loop
+Inv-member-list s from depth at₀ at = (from ≤ at) × (at ≤ length s) × ((r : End) → MembersEnd s at depth r → MembersEnd s from depth r)
+
+abbrev μ-member-list : member-list-lts.MeasureT-loop
+μ-member-list s from depth at₀ at = length s - at
+
+pub +arrays·array+arrays·elements+objects·after-name+objects·member+objects·member-list+objects·object+values·bare+values·value-spec :
+    {M : Type 1} → statement M
++arrays·array+arrays·elements+objects·after-name+objects·member+objects·member-list+objects·object+values·bare+values·value-spec =
+    close
+    (weight 3)
+    (weight 2)
+    (weight 0)
+    (weight 0)
+    (weight 1)
+    (weight 2)
+    (weight 0)
+    (weight 1)
+    -- array
+    (λ t. array-lts.spec (skip-ws-reads.Asked, skip-ws-reads.Learnt, called 2 elements.Pre t, elements.Post)
+    (entered 3 array.Pre t)
+    array.Post
+    (λ c. law.array-deep _ (c .if1 .taken))
+    (λ c κs. omega arith)
+    (λ c. law.array-out _ (c .before .before .if1 .left) (c .before .skip-ws .ensures) (c .if2 .taken))
+    (λ c. omega arith)
+    (λ c. omega arith)
+    (λ c. law.array-empty _ (c .before .before .before .before .if1 .left) (c .before .before .before .skip-ws .ensures) (c .before .before .if2 .left) (c .if3 .taken))
+    (λ c. omega arith)
+    (λ c κs. omega arith)
+    (λ c. law.array-elements _ (c .before .before .before .before .before .if1 .left) (c .before .before .before .before .skip-ws .ensures) (c .before .before .before .if2 .left) (c .before .if3 .left) (c .elements .ensures)))
+    -- elements
+    (λ t. elements-lts.spec (called 1 value.Pre t, value.Post)
+    (entered 2 elements.Pre t)
+    elements.Post
+    Inv-elements
+    μ-elements
+    (λ c. (omega arith, omega arith, λ r h. h))
+    (λ c κs. omega arith)
+    (λ c. search needs)
+    (λ c. search needs)
+    (λ c. (c .before .before .before .loop .inv .2) _ (law.elements-bad _ (ended (c .enum-told .given .1) (c .before .before .value .ensures))))
+    (λ c. (c .before .before .before .before .before .loop .inv .2) _ (law.elements-out _ (ended (c .before .before .e .given .1) (c .before .before .before .before .value .ensures)) (c .if1 .taken)))
+    (λ c. omega arith)
+    (λ c. omega arith)
+    (λ c. (c .before .before .before .before .before .before .before .loop .inv .2) _ (law.elements-close _ (ended (c .before .before .before .before .e .given .1) (c .before .before .before .before .before .before .value .ensures)) (c .before .before .if1 .left) (c .if2 .taken)))
+    (λ c. (c .before .before .before .before .before .before .before .before .loop .inv .2) _ (law.elements-other _ (ended (c .before .before .before .before .before .e .given .1) (c .before .before .before .before .before .before .before .value .ensures)) (c .before .before .before .if1 .left) (c .before .if2 .left) (c .if3 .taken)))
+    (λ c. omega arith)
+    (λ c. omega (arith, bounds (ended (c .before .before .before .before .before .e .given .1) (c .before .before .before .before .before .before .before .value .ensures)) .0))
+    (λ c. (omega (arith, bounds (ended (c .before .before .before .before .before .e .given .1) (c .before .before .before .before .before .before .before .value .ensures)) .0), omega arith, λ r h. (c .before .before .before .before .before .before .before .before .loop .inv .2) r (law.elements-comma _ (ended (c .before .before .before .before .before .e .given .1) (c .before .before .before .before .before .before .before .value .ensures)) (c .before .before .before .if1 .left) (c .if3 .left) h))))
+    -- after_name
+    (λ t. after-name-lts.spec (skip-ws-reads.Asked, skip-ws-reads.Learnt, called 1 value.Pre t, value.Post)
+    (entered 0 after-name.Pre t)
+    after-name.Post
+    (λ c κs. omega arith)
+    (λ c. law.colon-out _ (c .before .skip-ws .ensures) (c .if1 .taken))
+    (λ c. omega arith)
+    (λ c. law.colon-other _ (c .before .before .before .skip-ws .ensures) (c .before .before .if1 .left) (c .if2 .taken))
+    (λ c. omega arith)
+    (λ c κs. omega arith)
+    (λ c. law.colon-is _ (c .before .before .before .before .skip-ws .ensures) (c .before .before .before .if1 .left) (c .before .if2 .left) (c .value .ensures)))
+    -- member
+    (λ t. member-lts.spec (string-end-reads.Asked, string-end-reads.Learnt, called 0 after-name.Pre t, after-name.Post)
+    (entered 0 member.Pre t)
+    member.Post
+    (λ c. law.member-out _ (c .if1 .taken))
+    (λ c. omega arith)
+    (λ c. law.member-no-quote _ (c .before .before .if1 .left) (c .if2 .taken))
+    (λ c. omega arith)
+    (λ c κs. omega arith)
+    (λ c. search needs)
+    (λ c κs. omega (arith, law.string-bounds _ _ _ (rw (c .before .q .given .1) at (c .before .before .before .string-end .ensures))))
+    (λ c. search needs)
+    (λ c. law.member-is _ (c .before .before .before .before .before .before .before .if1 .left) (c .before .before .before .before .before .if2 .left) (rw (c .before .before .q .given .1) at (c .before .before .before .before .string-end .ensures)) (c .after-name .ensures))
+    (λ c. law.member-name-bad _ (c .before .before .before .before .before .if1 .left) (c .before .before .before .if2 .left) (rw (c .enum-told .given .1) at (c .before .before .string-end .ensures))))
+    -- member_list
+    (λ t. member-list-lts.spec (called 0 member.Pre t, member.Post, skip-ws-reads.Asked, skip-ws-reads.Learnt)
+    (entered 1 member-list.Pre t)
+    member-list.Post
+    Inv-member-list
+    μ-member-list
+    (λ c. (omega arith, omega arith, λ r h. h))
+    (λ c κs. omega arith)
+    (λ c. search needs)
+    (λ c. search needs)
+    (λ c. (c .before .before .before .loop .inv .2) _ (law.members-bad _ (ended (c .enum-told .given .1) (c .before .before .member .ensures))))
+    (λ c. (c .before .before .before .before .before .loop .inv .2) _ (law.members-out _ (ended (c .before .before .e .given .1) (c .before .before .before .before .member .ensures)) (c .if1 .taken)))
+    (λ c. omega arith)
+    (λ c. omega arith)
+    (λ c. (c .before .before .before .before .before .before .before .loop .inv .2) _ (law.members-close _ (ended (c .before .before .before .before .e .given .1) (c .before .before .before .before .before .before .member .ensures)) (c .before .before .if1 .left) (c .if2 .taken)))
+    (λ c. (c .before .before .before .before .before .before .before .before .loop .inv .2) _ (law.members-other _ (ended (c .before .before .before .before .before .e .given .1) (c .before .before .before .before .before .before .before .member .ensures)) (c .before .before .before .if1 .left) (c .before .if2 .left) (c .if3 .taken)))
+    (λ c. omega arith)
+    (λ c κs. omega arith)
+    (λ c. omega (arith, bounds (ended (c .before .before .before .before .before .before .e .given .1) (c .before .before .before .before .before .before .before .before .member .ensures)) .0, (c .skip-ws .ensures .low)))
+    (λ c. (omega (arith, bounds (ended (c .before .before .before .before .before .before .e .given .1) (c .before .before .before .before .before .before .before .before .member .ensures)) .0, (c .skip-ws .ensures .low)), (c .skip-ws .ensures .high), λ r h. (c .before .before .before .before .before .before .before .before .before .loop .inv .2) r (law.members-comma _ (ended (c .before .before .before .before .before .before .e .given .1) (c .before .before .before .before .before .before .before .before .member .ensures)) (c .before .before .before .before .if1 .left) (c .before .if3 .left) (c .skip-ws .ensures) h))))
+    -- object
+    (λ t. object-lts.spec (skip-ws-reads.Asked, skip-ws-reads.Learnt, called 1 member-list.Pre t, member-list.Post)
+    (entered 2 object.Pre t)
+    object.Post
+    (λ c. law.object-deep _ (c .if1 .taken))
+    (λ c κs. omega arith)
+    (λ c. law.object-out _ (c .before .before .if1 .left) (c .before .skip-ws .ensures) (c .if2 .taken))
+    (λ c. omega arith)
+    (λ c. omega arith)
+    (λ c. law.object-empty _ (c .before .before .before .before .if1 .left) (c .before .before .before .skip-ws .ensures) (c .before .before .if2 .left) (c .if3 .taken))
+    (λ c. omega arith)
+    (λ c κs. omega arith)
+    (λ c. law.object-members _ (c .before .before .before .before .before .if1 .left) (c .before .before .before .before .skip-ws .ensures) (c .before .before .before .if2 .left) (c .before .if3 .left) (c .member-list .ensures)))
+    -- bare
+    (λ t. bare-lts.spec (string-end-reads.Asked, string-end-reads.Learnt, called 3 array.Pre t, array.Post, called 2 object.Pre t, object.Post, word-end-reads.Asked, word-end-reads.Learnt, number-end-reads.Asked, number-end-reads.Learnt)
+    (entered 0 bare.Pre t)
+    bare.Post
+    (λ c. omega arith)
+    (λ c. omega arith)
+    (λ c κs. omega arith)
+    (λ c. law.bare-string _ (c .before .before .before .before .pre .1) (c .before .if1 .taken) (c .string-end .ensures))
+    (λ c. omega arith)
+    (λ c κs. omega arith)
+    (λ c. law.bare-array _ (c .before .before .before .before .before .pre .1) (c .before .if2 .taken) (c .array .ensures))
+    (λ c. omega arith)
+    (λ c κs. omega arith)
+    (λ c. law.bare-object _ (c .before .before .before .before .before .before .pre .1) (c .before .if3 .taken) (c .object .ensures))
+    (λ c. omega arith)
+    (λ c. search needs)
+    (λ c κs. omega arith)
+    (λ c. law.bare-true _ (c .before .before .before .before .before .before .before .before .pre .1) (c .before .before .if4 .taken) (c .word-end .ensures))
+    (λ c. omega arith)
+    (λ c. search needs)
+    (λ c κs. omega arith)
+    (λ c. law.bare-false _ (c .before .before .before .before .before .before .before .before .before .pre .1) (c .before .before .if5 .taken) (c .word-end2 .ensures))
+    (λ c. omega arith)
+    (λ c. search needs)
+    (λ c κs. omega arith)
+    (λ c. law.bare-null _ (c .before .before .before .before .before .before .before .before .before .before .pre .1) (c .before .before .if6 .taken) (c .word-end3 .ensures))
+    (λ c κs. omega arith)
+    (λ c. law.bare-number _ (c .before .before .before .before .before .before .before .before .before .pre .1) (c .before .before .before .before .before .before .if1 .left) (c .before .before .before .before .before .if2 .left) (c .before .before .before .before .if3 .left) (c .before .before .before .if4 .left) (c .before .before .if5 .left) (c .before .if6 .left) (c .number-end .ensures)))
+    -- value
+    λ t. value-lts.spec (skip-ws-reads.Asked, skip-ws-reads.Learnt, called 0 bare.Pre t, bare.Post)
+    (entered 1 value.Pre t)
+    value.Post
+    (λ c κs. omega arith)
+    (λ c. law.value-out _ (c .before .skip-ws .ensures) (c .if1 .taken))
+    (λ c κs. omega arith)
+    (λ c. search needs)
+    (λ c κs. bounds (ended (c .before .e .given .1) (c .before .before .before .bare .ensures)) .1)
+    (λ c. search needs)
+    (λ c. law.value-is _ (c .before .before .before .before .before .before .skip-ws .ensures) (ended (c .before .before .e .given .1) (c .before .before .before .before .bare .ensures)) (c .skip-ws2 .ensures))
+    (λ c. law.value-bad _ (c .before .before .before .before .skip-ws .ensures) (ended (c .enum-told .given .1) (c .before .before .bare .ensures)))

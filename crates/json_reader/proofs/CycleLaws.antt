@@ -1,0 +1,227 @@
+-- The readers that call one another: a law for each way through each function.
+use mathlib.Core.Path.{_≡_, refl, _∙_}
+use mathlib.Core.Bool.{Bool, true, false}
+use mathlib.Core.List.{List, [], _∷_}
+use Prim.Native.Nat.{ℕ, zero, suc, _≤_, _<_, _+_, _-_}
+use native.Mathlib.Omega.{arith}
+use lib.Dec.{eqb}
+use lib.ListN.{length, drop, getD}
+use borrow.Author.Tests.{ne-eqb}
+use Rattle.json_grammar.specs.Value.{LMember, stringL, numberL, trueL, falseL, nullL, arrayL, objectL, item, inil, icons, named, lnil, lcons}
+use Rattle.json_grammar.specs.Reader.{Got, bad, got, over, one-by, expect, ws, upTo, valueLead, numberLead, placedItem, readChars, readValue, readMoreElements, readMoreMembers}
+use Rattle.json_grammar.specs.Levels.{readInArray, readMembers, readInObject}
+use Rattle.json_string.specs.declared.End.{End}
+use Rattle.json_string.specs.declared.End.the-variants.{At, Bad}
+use Rattle.json_string.specs.Ends.{by, shorter}
+use Rattle.json_string.specs.Strings.{StringEnds}
+use Rattle.json_reader.specs.Contracts.{EndsBy, SkipsTo, WordEnds, NumberEnds, ValueEnds, BareEnds, ArrayEnds, ElementsEnd, ObjectEnds, MembersEnd, MemberEnds, AfterName}
+use Rattle.json_reader.specs.Contracts.{readTrimmed}
+use Rattle.json_reader.specs.EndsLaws.{given, none, bounds, earlier, same, wrong, out, first, first-below, first-same, first-only, first-bad, bind, bind-bad, map, renamed, moved, deepened}
+
+-- ELEMENTS: value *( value-separator value ) end-array
+
+no-elements : (d n : ℕ) → readMoreElements n d [] ≡ bad
+unfolding readMoreElements
+no-elements d zero = refl
+no-elements d (suc n) = refl
+
+module _ {s : List ℕ} {at e : ℕ} (d : ℕ) (h : ValueEnds s at d (At e)) where
+  element : {r : End} → EndsBy (λ n x. readMoreElements n d x) s e e r → ElementsEnd s at d r
+  element k = bind (omega arith) (λ x v n y. over (icons v) (readMoreElements n d y)) h (λ v. map (λ n x. icons v) k)
+
+  pub elements-close : e < length s → getD s e 0 ≡ 0x5D → ElementsEnd s at d (At (e + 1))
+  unfolding readMoreElements
+  elements-close k b = element (first-only k (omega arith) inil (λ n. rw b))
+
+  pub elements-comma : {r : End} → e < length s → getD s e 0 ≡ 0x2C → ElementsEnd s (e + 1) d r → ElementsEnd s at d r
+  unfolding readMoreElements
+  elements-comma k b rest = element (first-below k (omega arith) (λ n. rw b) rest)
+
+  pub elements-other : e < length s → (getD s e 0 ≡ 0x5D → ⊥) → (getD s e 0 ≡ 0x2C → ⊥) → ElementsEnd s at d Bad
+  unfolding readMoreElements
+  elements-other k b c = element (first-bad k (omega arith) (λ n. rw (ne-eqb (getD s e 0) 0x5D b, ne-eqb (getD s e 0) 0x2C c)))
+
+  pub elements-out : length s ≤ e → ElementsEnd s at d Bad
+  elements-out k = element (out k (no-elements d))
+
+pub elements-bad : {s : List ℕ} {at : ℕ} (d : ℕ) → ValueEnds s at d Bad → ElementsEnd s at d Bad
+elements-bad d h = bind-bad (omega arith) (λ x v n y. over (icons v) (readMoreElements n d y)) h
+
+-- ARRAYS: past the bracket
+
+pub array-deep : {s : List ℕ} {from : ℕ} (d : ℕ) → d ≡ 0 → ArrayEnds s from d Bad
+array-deep d e = wrong (λ n. rw e)
+
+module _ {s : List ℕ} {from at : ℕ} (d : ℕ) (z : d ≡ 0 → ⊥) (k : SkipsTo s from at) where
+  in-array : {r : End} → EndsBy (λ n x. readInArray n (d - 1) x) s at from r → ArrayEnds s from d r
+  in-array h = deepened (λ e n x. readInArray n e (ws x)) d z (moved (λ n x. readInArray n (d - 1) x) k h)
+
+  pub array-empty : at < length s → getD s at 0 ≡ 0x5D → ArrayEnds s from d (At (at + 1))
+  array-empty h b = in-array (first-only h (omega (arith, k .low)) inil (λ n. rw b))
+
+  pub array-elements : {r : End} → at < length s → (getD s at 0 ≡ 0x5D → ⊥) → ElementsEnd s at (d - 1) r → ArrayEnds s from d r
+  array-elements h b rest = in-array (first-same h (omega (arith, k .low)) (λ n. rw (ne-eqb (getD s at 0) 0x5D b)) (earlier (k .low) rest))
+
+  pub array-out : length s ≤ at → ArrayEnds s from d Bad
+  array-out h = in-array (out h (λ n. refl))
+
+-- MEMBERS: member *( value-separator member ) end-object
+
+no-members : (d n : ℕ) → readMoreMembers n d [] ≡ bad
+unfolding readMoreMembers
+no-members d zero = refl
+no-members d (suc n) = refl
+
+module _ {s : List ℕ} {at e : ℕ} (d : ℕ) (h : MemberEnds s at d (At e)) where
+  one-member : {r : End} → EndsBy (λ n x. readMoreMembers n d x) s e e r → MembersEnd s at d r
+  one-member k = bind (omega arith) (λ x m n y. over (lcons m) (readMoreMembers n d y)) h (λ m. map (λ n x. lcons m) k)
+
+  pub members-close : e < length s → getD s e 0 ≡ 0x7D → MembersEnd s at d (At (e + 1))
+  unfolding readMoreMembers
+  members-close k b = one-member (first-only k (omega arith) lnil (λ n. rw b))
+
+  pub members-comma : {j : ℕ} {r : End} → e < length s → getD s e 0 ≡ 0x2C → SkipsTo s (e + 1) j → MembersEnd s j d r → MembersEnd s at d r
+  unfolding readMoreMembers
+  members-comma k b w rest = one-member (first-below k (omega arith) (λ n. rw b) (moved (λ n x. readMembers n d x) w (earlier (w .low) rest)))
+
+  pub members-other : e < length s → (getD s e 0 ≡ 0x7D → ⊥) → (getD s e 0 ≡ 0x2C → ⊥) → MembersEnd s at d Bad
+  unfolding readMoreMembers
+  members-other k b c = one-member (first-bad k (omega arith) (λ n. rw (ne-eqb (getD s e 0) 0x7D b, ne-eqb (getD s e 0) 0x2C c)))
+
+  pub members-out : length s ≤ e → MembersEnd s at d Bad
+  members-out k = one-member (out k (no-members d))
+
+pub members-bad : {s : List ℕ} {at : ℕ} (d : ℕ) → MemberEnds s at d Bad → MembersEnd s at d Bad
+members-bad d h = bind-bad (omega arith) (λ x m n y. over (lcons m) (readMoreMembers n d y)) h
+
+-- OBJECTS: past the brace
+
+pub object-deep : {s : List ℕ} {from : ℕ} (d : ℕ) → d ≡ 0 → ObjectEnds s from d Bad
+object-deep d e = wrong (λ n. rw e)
+
+module _ {s : List ℕ} {from at : ℕ} (d : ℕ) (z : d ≡ 0 → ⊥) (k : SkipsTo s from at) where
+  in-object : {r : End} → EndsBy (λ n x. readInObject n (d - 1) x) s at from r → ObjectEnds s from d r
+  in-object h = deepened (λ e n x. readInObject n e (ws x)) d z (moved (λ n x. readInObject n (d - 1) x) k h)
+
+  pub object-empty : at < length s → getD s at 0 ≡ 0x7D → ObjectEnds s from d (At (at + 1))
+  object-empty h b = in-object (first-only h (omega (arith, k .low)) lnil (λ n. rw b))
+
+  pub object-members : {r : End} → at < length s → (getD s at 0 ≡ 0x7D → ⊥) → MembersEnd s at (d - 1) r → ObjectEnds s from d r
+  object-members h b rest = in-object (first-same h (omega (arith, k .low)) (λ n. rw (ne-eqb (getD s at 0) 0x7D b)) (earlier (k .low) rest))
+
+  pub object-out : length s ≤ at → ObjectEnds s from d Bad
+  object-out h = in-object (out h (λ n. refl))
+
+-- A MEMBER: a string, a colon and a value
+
+module _ {s : List ℕ} {from at : ℕ} (d : ℕ) (k : SkipsTo s from at) where
+  colon-value : {r : End} → EndsBy (λ n x. expect 0x3A x (λ y. readValue n d y)) s at from r → AfterName s from d r
+  colon-value h = moved (λ n x. expect 0x3A x (λ y. readValue n d y)) k h
+
+  pub colon-is : {r : End} → at < length s → getD s at 0 ≡ 0x3A → ValueEnds s (at + 1) d r → AfterName s from d r
+  colon-is h b rest = colon-value (first h (omega (arith, k .low)) (λ n. rw b) rest)
+
+  pub colon-other : at < length s → (getD s at 0 ≡ 0x3A → ⊥) → AfterName s from d Bad
+  colon-other h b = colon-value (first-bad h (omega (arith, k .low)) (λ n. rw (ne-eqb (getD s at 0) 0x3A b)))
+
+  pub colon-out : length s ≤ at → AfterName s from d Bad
+  colon-out h = colon-value (out h (λ n. refl))
+
+expect-over : {A B : Type 0} (x : ℕ) (l : List ℕ) (f : A → B) (k : List ℕ → Got A) → expect x l (λ y. over f (k y)) ≡ over f (expect x l k)
+expect-over x [] f k = refl
+expect-over {A} {B} x (b ∷ l) f k = go (eqb b x)
+  where
+    go : (t : Bool) → one-by t b l (λ _ y. over f (k y)) ≡ over f (one-by t b l (λ _ y. k y))
+    go true = refl
+    go false = refl
+
+string-ends : {s : List ℕ} {at : ℕ} {r : End} → StringEnds s at r → EndsBy readChars s at at r
+unfolding StringEnds
+string-ends h = record { ends = h }
+
+pub string-bounds : (s : List ℕ) (at e : ℕ) → StringEnds s at (At e) → (at ≤ e) × (e ≤ length s)
+string-bounds s at e h = bounds (string-ends h)
+
+-- what follows the quotation mark of a name, the bytes x, after the characters cs
+abbrev past-name : ℕ → List ℕ → List ℕ → ℕ → List ℕ → Got LMember
+past-name d x cs n y = expect 0x3A (ws y) (λ z. over (named x (0x22 ∷ y) cs) (readValue n d z))
+
+module _ {s : List ℕ} {from : ℕ} (d : ℕ) where
+  pub member-is : {q : ℕ} {r : End} → from < length s → getD s from 0 ≡ 0x22 → StringEnds s (from + 1) (At q) → AfterName s q d r → MemberEnds s from d r
+  member-is {q} h b k rest =
+      first h (omega arith) (λ n. rw b)
+      (bind (omega arith) (past-name d) (string-ends k) (λ cs. same (λ n. expect-over 0x3A (ws (drop q s)) (named (drop (from + 1) s) (0x22 ∷ drop q s) cs) (λ z. readValue n d z)) (map (λ n y. named (drop (from + 1) s) (0x22 ∷ y) cs) rest)))
+
+  pub member-name-bad : from < length s → getD s from 0 ≡ 0x22 → StringEnds s (from + 1) Bad → MemberEnds s from d Bad
+  member-name-bad h b k = first h (omega arith) (λ n. rw b) (bind-bad (omega arith) (past-name d) (string-ends k))
+
+  pub member-no-quote : from < length s → (getD s from 0 ≡ 0x22 → ⊥) → MemberEnds s from d Bad
+  member-no-quote h b = first-bad h (omega arith) (λ n. rw (ne-eqb (getD s from 0) 0x22 b))
+
+  pub member-out : length s ≤ from → MemberEnds s from d Bad
+  member-out h = out h (λ n. refl)
+
+-- A VALUE FROM ITS FIRST BYTE ON
+
+lead-number : (b : ℕ) → (b ≡ 0x22 → ⊥) → (b ≡ 0x5B → ⊥) → (b ≡ 0x7B → ⊥) → (b ≡ 0x74 → ⊥) → (b ≡ 0x66 → ⊥) → (b ≡ 0x6E → ⊥) → valueLead b ≡ numberLead
+unfolding valueLead
+lead-number b h1 h2 h3 h4 h5 h6 = rw (ne-eqb b 0x22 h1, ne-eqb b 0x5B h2, ne-eqb b 0x7B h3, ne-eqb b 0x74 h4, ne-eqb b 0x66 h5, ne-eqb b 0x6E h6)
+
+module _ {s : List ℕ} {at : ℕ} {r : End} (d : ℕ) (h : at < length s) where
+  pub bare-string : getD s at 0 ≡ 0x22 → StringEnds s (at + 1) r → BareEnds s at d r
+  unfolding readTrimmed valueLead
+  bare-string b k = first-below h (omega arith) (λ n. rw b) (map (λ _ _. stringL) (string-ends k))
+
+  pub bare-array : getD s at 0 ≡ 0x5B → ArrayEnds s (at + 1) d r → BareEnds s at d r
+  unfolding readTrimmed valueLead
+  bare-array b k = first-below h (omega arith) (λ n. rw b) (map (λ _ _. arrayL) k)
+
+  pub bare-object : getD s at 0 ≡ 0x7B → ObjectEnds s (at + 1) d r → BareEnds s at d r
+  unfolding readTrimmed valueLead
+  bare-object b k = first-below h (omega arith) (λ n. rw b) (map (λ _ _. objectL) k)
+
+  pub bare-true : getD s at 0 ≡ 0x74 → WordEnds (0x72 ∷ 0x75 ∷ 0x65 ∷ []) s (at + 1) r → BareEnds s at d r
+  unfolding readTrimmed valueLead
+  bare-true b k = first-below h (omega arith) (λ n. rw b) (map (λ _ _ _. trueL) k)
+
+  pub bare-false : getD s at 0 ≡ 0x66 → WordEnds (0x61 ∷ 0x6C ∷ 0x73 ∷ 0x65 ∷ []) s (at + 1) r → BareEnds s at d r
+  unfolding readTrimmed valueLead
+  bare-false b k = first-below h (omega arith) (λ n. rw b) (map (λ _ _ _. falseL) k)
+
+  pub bare-null : getD s at 0 ≡ 0x6E → WordEnds (0x75 ∷ 0x6C ∷ 0x6C ∷ []) s (at + 1) r → BareEnds s at d r
+  unfolding readTrimmed valueLead
+  bare-null b k = first-below h (omega arith) (λ n. rw b) (map (λ _ _ _. nullL) k)
+
+  pub bare-number : (getD s at 0 ≡ 0x22 → ⊥) → (getD s at 0 ≡ 0x5B → ⊥) → (getD s at 0 ≡ 0x7B → ⊥) → (getD s at 0 ≡ 0x74 → ⊥) → (getD s at 0 ≡ 0x66 → ⊥) → (getD s at 0 ≡ 0x6E → ⊥)
+      → NumberEnds s at r → BareEnds s at d r
+  unfolding readTrimmed
+  bare-number h1 h2 h3 h4 h5 h6 k = first-same h (omega arith) (λ n. rw (lead-number (getD s at 0) h1 h2 h3 h4 h5 h6)) (map (λ _ _. numberL) (renamed r (λ x a y. upTo x y) (omega arith) k))
+
+-- A VALUE BETWEEN WHITE SPACE
+
+no-trimmed : (d n : ℕ) → readTrimmed n d [] ≡ bad
+unfolding readTrimmed
+no-trimmed d zero = refl
+no-trimmed d (suc n) = refl
+
+value-trimmed : (n d : ℕ) (x : List ℕ) → readValue n d x ≡ placedItem (ws x) (readTrimmed n d (ws x))
+unfolding readValue readTrimmed
+value-trimmed zero d x = refl
+value-trimmed (suc n) d x = refl
+
+module _ {s : List ℕ} {from at : ℕ} (d : ℕ) (k : SkipsTo s from at) where
+  pub placed-at : (n : ℕ) → readValue n d (drop from s) ≡ placedItem (drop at s) (readTrimmed n d (drop at s))
+  placed-at n = value-trimmed n d (drop from s) ∙ rw (k .is)
+
+  pub value-is : {e j : ℕ} → BareEnds s at d (At e) → SkipsTo s e j → ValueEnds s from d (At j)
+  value-is {e} {j} b w = record {
+    ends = λ n i.
+        let g = given b n (shorter s from at n (k .low) i) in
+        by s from (At j) _ (got (item (drop at s) (drop e s) (g .0)) (drop j s)) (placed-at n ∙ rw (g .1, w .is)) (omega (arith, k .low, bounds b .0, w .low), w .high, refl);
+  }
+
+  pub value-bad : BareEnds s at d Bad → ValueEnds s from d Bad
+  value-bad b = record { ends = λ n i. by s from Bad _ bad (placed-at n ∙ rw (none b n (shorter s from at n (k .low) i))) tt }
+
+  pub value-out : length s ≤ at → ValueEnds s from d Bad
+  value-out h = value-bad (out h (no-trimmed d))

@@ -1,0 +1,103 @@
+-- The place of a member's value, and the whole text: a law for each way through each function.
+use mathlib.Core.Path.{_≡_, refl, sym, ap, _∙_, subst}
+use mathlib.Core.Bool.{Bool, true, false}
+use mathlib.Core.List.{List, [], _∷_}
+use Prim.Native.Nat.{ℕ, zero, suc, _≤_, _<_, _+_}
+use native.Mathlib.Omega.{arith}
+use lib.Dec.{eqb}
+use lib.ListN.{length, drop, getD, drop-of-length-le}
+use borrow.Author.Tests.{eqb-true, eqb-false, ne-eqb}
+use Rattle.json_grammar.specs.Value.{LValue, LItem, LMembers, item, plain}
+use Rattle.json_grammar.specs.Places.{kindOf}
+use Rattle.json_grammar.specs.Reader.{Got, bad, got, then, over, expect, ws, word, placedItem, ends-by, readChars, readNumber}
+use Rattle.json_grammar.specs.Reader.{ValueLead, quoteLead, bracketLead, braceLead, trueLead, falseLead, nullLead, numberLead, valueLead}
+use Rattle.json_grammar.specs.Reader.{value-by, readValue, readMoreElements, readMoreMembers, readObject, read}
+use Rattle.json_grammar.specs.Unique.{isGot}
+use Rattle.json_string.specs.declared.End.{End}
+use Rattle.json_string.specs.declared.End.the-variants.{At, Bad}
+use Rattle.json_reader.specs.declared.values.Span.the-variants.{Found, Nowhere}
+use Rattle.json_string.specs.Ends.{at-byte, shorter}
+use Rattle.json_reader.specs.Contracts.{EndsBy, SkipsTo, BareEnds, ObjectEnds, AfterName, readTrimmed, readArray, readAfterName, kindBy, Spans, SpanAt, isText}
+use Rattle.json_reader.specs.EndsLaws.{given, none, bounds, done, out, first, first-bad, bind, bind-bad, moved}
+use Rattle.json_reader.proofs.CycleLaws.{placed-at}
+
+-- THE KIND OF A VALUE, by its first byte
+
+over-kind : {A : Type 0} {v : LValue} {y : List ℕ} (f : A → LValue) (t : ValueLead) → ((a : A) → kindOf (plain (f a)) ≡ kindBy t) → (g : Got A) → over f g ≡ got v y
+    → kindOf (plain v) ≡ kindBy t
+over-kind f t k bad e = let z : _≡_ {A = ℕ} 0 1 = cc in absurd (omega arith)
+over-kind {A} {v} {y} f t k (got a x) e = let z : f a ≡ v = cc in rw z at (k a)
+
+value-kind : {v : LValue} {y : List ℕ} (n d : ℕ) (t : ValueLead) (b : ℕ) (x : List ℕ)
+    → value-by n (λ e r. readValue n e r) (λ e r. readMoreElements n e r) (λ e r. readMoreMembers n e r) d t b x ≡ got v y → kindOf (plain v) ≡ kindBy t
+unfolding kindBy kindOf plain
+value-kind n d quoteLead b x e = over-kind _ quoteLead (λ a. refl) (readChars n x) e
+value-kind n d bracketLead b x e = over-kind _ bracketLead (λ a. refl) (readArray n d x) e
+value-kind n d braceLead b x e = over-kind _ braceLead (λ a. refl) (readObject n d x) e
+value-kind n d trueLead b x e = over-kind _ trueLead (λ a. refl) (word (0x72 ∷ 0x75 ∷ 0x65 ∷ []) x) e
+value-kind n d falseLead b x e = over-kind _ falseLead (λ a. refl) (word (0x61 ∷ 0x6C ∷ 0x73 ∷ 0x65 ∷ []) x) e
+value-kind n d nullLead b x e = over-kind _ nullLead (λ a. refl) (word (0x75 ∷ 0x6C ∷ 0x6C ∷ []) x) e
+value-kind n d numberLead b x e = over-kind _ numberLead (λ a. refl) (readNumber (b ∷ x)) e
+
+trimmed-kind : {v : LValue} {y : List ℕ} (n d b : ℕ) (x : List ℕ) → readTrimmed n d (b ∷ x) ≡ got v y → kindOf (plain v) ≡ kindBy (valueLead b)
+unfolding readTrimmed
+trimmed-kind zero d b x e = let z : _≡_ {A = ℕ} 0 1 = cc in absurd (omega arith)
+trimmed-kind (suc n) d b x e = value-kind n d (valueLead b) b x e
+
+-- THE PLACE OF A MEMBER'S VALUE
+
+pub span-is : {s : List ℕ} {q c f e : ℕ} (d : ℕ) → SkipsTo s q c → c < length s → getD s c 0 ≡ 0x3A → SkipsTo s (c + 1) f → f < length s → BareEnds s f d (At e) → SpanAt s q d (Found f e)
+span-is {s} {q} {c} {f} {e} d k h b w j r = record {
+  spans = λ n l.
+      let g = given r n (shorter s q f n (omega (arith, k .low, w .low)) l) in
+      let o = bounds r in
+      let is : readAfterName n d (drop q s) ≡ got (item (drop f s) (drop e s) (g .0)) (ws (drop e s)) = rw (k .is, at-byte s c h, b) (placed-at d w n ∙ ap (placedItem (drop f s)) (g .1)) in
+      subst (λ (x : Got LItem). Spans s (Found f e) x) (sym is)
+      (omega (arith, o .0), o .1, refl, refl, trimmed-kind n d (getD s f 0) (drop (f + 1) s) (ap (readTrimmed n d) (sym (at-byte s f j)) ∙ g .1));
+}
+
+pub span-none : {s : List ℕ} {q : ℕ} (d : ℕ) → AfterName s q d Bad → SpanAt s q d Nowhere
+span-none {s} {q} d h = record { spans = λ n l. subst (λ (x : Got LItem). Spans s Nowhere x) (sym (none h n l)) tt }
+
+-- THE WHOLE TEXT
+
+-- as `read`, with any fuel
+abbrev readText : ℕ → ℕ → List ℕ → Got LMembers
+readText d n s = expect 0x7B (ws s) (λ r. then (readObject n d r) (λ ms y. ends-by ms (ws y)))
+
+module _ {s : List ℕ} (d : ℕ) where
+  text-ends : {e : ℕ} → EndsBy (readText d) s 0 0 (At e) → true ≡ isText d s
+  unfolding isText read
+  text-ends h = sym (ap isGot (given h (length s) (omega arith) .1))
+
+  text-bad : EndsBy (readText d) s 0 0 Bad → false ≡ isText d s
+  unfolding isText read
+  text-bad h = sym (ap isGot (none h (length s) (omega arith)))
+
+  module _ {at : ℕ} (k : SkipsTo s 0 at) where
+    -- past the brace
+    in-text : {r : End} → EndsBy (λ n x. expect 0x7B x (λ y. then (readObject n d y) (λ ms z. ends-by ms (ws z)))) s at 0 r → EndsBy (readText d) s 0 0 r
+    in-text h = moved (λ n x. expect 0x7B x (λ y. then (readObject n d y) (λ ms z. ends-by ms (ws z)))) k h
+
+    pub text-is : {e j : ℕ} → at < length s → getD s at 0 ≡ 0x7B → ObjectEnds s (at + 1) d (At e) → SkipsTo s e j → eqb j (length s) ≡ isText d s
+    text-is {e} {j} h b o w = by-end (eqb j (length s)) refl
+      where
+        past : {r : End} → ((ms : LMembers) → EndsBy (λ n x. ends-by ms x) s j e r) → EndsBy (readText d) s 0 0 r
+        past f = in-text (first h (omega arith) (λ n. rw b) (bind (omega arith) (λ x ms n y. ends-by ms (ws y)) o (λ ms. moved (λ n x. ends-by ms x) w (f ms))))
+
+        by-end : (t : Bool) → eqb j (length s) ≡ t → t ≡ isText d s
+        by-end true q =
+            let i : length s ≤ j = omega (arith, eqb-true j (length s) q) in
+            text-ends (past (λ ms. done ms (w .low) (w .high) (λ n. rw (drop-of-length-le s i))))
+        by-end false q =
+            let i : j < length s = omega (arith, eqb-false j (length s) q, w .high) in
+            text-bad (past (λ ms. first-bad i (omega (arith, w .low)) (λ n. refl)))
+
+    pub text-object-bad : at < length s → getD s at 0 ≡ 0x7B → ObjectEnds s (at + 1) d Bad → false ≡ isText d s
+    text-object-bad h b o = text-bad (in-text (first h (omega arith) (λ n. rw b) (bind-bad (omega arith) (λ x ms n y. ends-by ms (ws y)) o)))
+
+    pub text-other : at < length s → (getD s at 0 ≡ 0x7B → ⊥) → false ≡ isText d s
+    text-other h b = text-bad (in-text (first-bad h (omega arith) (λ n. rw (ne-eqb (getD s at 0) 0x7B b))))
+
+    pub text-out : length s ≤ at → false ≡ isText d s
+    text-out h = text-bad (in-text (out h (λ n. refl)))

@@ -1,0 +1,55 @@
+-- `skip_ws` meets its contract.
+use mathlib.Core.Path.{sym, _∙_}
+use Prim.Native.Nat.{_-_}
+use native.Mathlib.Omega.{arith}
+use borrow.Author.Needs.{needs}
+use lib.ListN.{length}
+use Rattle.json_grammar.specs.Bytes.{isWs}
+use Rattle.json_reader.proofs.SkipLaws.{Skipping, skip-start, skip-more, skip-stop, skip-end}
+use Rattle.json_reader.proofs.spaces.skip_ws.Statement.{statement}
+use Rattle.json_reader.proofs.spaces.skip_ws.Tie as tie
+
+abbrev Inv-loop : tie.InvT-loop
+Inv-loop s from at₀ at = Skipping isWs s from at
+
+abbrev μ-loop : tie.MeasureT-loop
+μ-loop s from at₀ at = length s - at
+
+loop-holds : tie.Need-loop-holds Inv-loop μ-loop
+loop-holds c = skip-start (c .before .pre)
+
+shared-slice-read-is-ws : tie.Need-shared-slice-read-is-ws Inv-loop μ-loop
+shared-slice-read-is-ws c = omega arith
+
+is-ws-requires : tie.Need-is-ws-requires Inv-loop μ-loop
+is-ws-requires c κs = search needs
+
+add-at : tie.Need-add-at Inv-loop μ-loop
+add-at c = omega arith
+
+loop-less : tie.Need-loop-less Inv-loop μ-loop
+loop-less c = omega arith
+
+loop-again : tie.Need-loop-again Inv-loop μ-loop
+loop-again c = skip-more (c .before .before .before .before .loop .inv) (c .before .before .before .loop-test .taken) (sym (c .before .is-ws .ensures) ∙ c .if1 .taken)
+
+returns : tie.Need-returns Inv-loop μ-loop
+returns c = skip-stop (c .before .before .before .before .loop .inv) (c .before .before .before .loop-test .taken) (sym (c .before .is-ws .ensures) ∙ c .if1 .left)
+
+returns-2 : tie.Need-returns-2 Inv-loop μ-loop
+returns-2 c = skip-end (c .before .loop .inv) (c .loop-test .left)
+
+pub skip-ws-spec : {M : Type 1} → statement M
+skip-ws-spec =
+    tie.close
+    (tie.spec
+    Inv-loop
+    μ-loop
+    loop-holds
+    shared-slice-read-is-ws
+    is-ws-requires
+    add-at
+    loop-less
+    loop-again
+    returns
+    returns-2)

@@ -1,0 +1,3 @@
+-- Where the readers end in a slice.
+pub mod Contracts
+pub mod EndsLaws

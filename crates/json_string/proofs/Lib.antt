@@ -1,0 +1,9 @@
+pub mod ClassLaws
+pub mod ScanLaws
+pub mod DigitLaws
+pub mod FormLaws
+pub mod EscapeLaws
+pub mod CharLaws
+pub mod TextLaws
+pub mod OctetLaws
+pub mod WriteLaws

@@ -1,0 +1,161 @@
+-- Laws of strings compared: what stands at a place where a string does, two strings, a string and a word.
+use mathlib.Core.Path.{_≡_, refl, sym, ap, ap₂, _∙_, subst}
+use mathlib.Core.Bool.{Bool, true, false}
+use mathlib.Core.List.{List, [], _∷_}
+use Prim.Native.Nat.{ℕ, zero, suc, _≤_, _<_}
+use native.Mathlib.Omega.{arith}
+use lib.Dec.{eqb}
+use lib.ListN.{length, drop, getD, drop-of-length-le}
+use borrow.Author.Tests.{eq-eqb, ne-eqb, eqb-true, eqb-false}
+use Rattle.json_grammar.specs.Value.{eqList}
+use Rattle.json_grammar.specs.Reader.{Got, got, then, over, readChar, readChars}
+use Rattle.json_grammar.specs.ReaderLaws.{no-bad, then-inv, over-inv}
+use Rattle.json_string.specs.declared.End.{End}
+use Rattle.json_string.specs.declared.End.the-variants.{At, Bad}
+use Rattle.json_string.specs.declared.Scan.the-variants.{Code, Wrong}
+use Rattle.json_string.specs.Ends.{at-byte, farther}
+use Rattle.json_string.specs.Strings.{CharAt, NameAt, SameText, TextIs}
+use Rattle.json_string.specs.Utf8.{utf8}
+use Rattle.json_string.specs.Steps.{OctetsEnd}
+use Rattle.json_string.proofs.CharLaws.{chars-step, chars-quote, none-left}
+
+-- A STRING AT A PLACE
+
+module _ (s : List ℕ) (p : ℕ) (cs : List ℕ) where
+  pub name-out : {B : Type 0} → length s ≤ p → NameAt s p cs → B
+  unfolding NameAt
+  name-out h k = no-bad (sym (ap (readChars (k .0)) (drop-of-length-le s h) ∙ none-left (k .0)) ∙ k .3)
+
+  pub name-quote : p < length s → getD s p 0 ≡ 0x22 → NameAt s p cs → cs ≡ []
+  unfolding NameAt readChars
+  name-quote h b k = go (k .0) (k .2) (k .3)
+    where
+      go : (n : ℕ) (r : List ℕ) → readChars n (drop p s) ≡ got cs r → cs ≡ []
+      go zero r e = no-bad e
+      go (suc n) r e = let q = chars-quote s p h n b in cc
+
+  module _ (h : p < length s) (b : getD s p 0 ≡ 0x22 → ⊥) where
+    -- it has a first character
+    name-some : NameAt s p cs → (c : ℕ) × (a : List ℕ) × (c ∷ a ≡ cs)
+    unfolding NameAt readChars
+    name-some k = go (k .0) (k .2) (k .3)
+      where
+        go : (n : ℕ) (r : List ℕ) → readChars n (drop p s) ≡ got cs r → (c : ℕ) × (a : List ℕ) × (c ∷ a ≡ cs)
+        go zero r e = no-bad e
+        go (suc n) r e =
+            let i = then-inv (readChar (drop p s)) (λ c r. over (λ cs. c ∷ cs) (readChars n r)) cs r (sym (chars-step s p h n b) ∙ e) in
+            let j = over-inv (λ cs. i .0 ∷ cs) (readChars n (i .1)) cs r (i .3) in
+            (i .0, j .0, j .2)
+
+    pub name-wrong : {B : Type 0} → CharAt s p Wrong → NameAt s p cs → B
+    unfolding NameAt CharAt readChars
+    name-wrong {B} w k = go (k .0) (k .2) (k .3)
+      where
+        go : (n : ℕ) (r : List ℕ) → readChars n (drop p s) ≡ got cs r → B
+        go zero r e = no-bad e
+        go (suc n) r e = no-bad (sym (chars-step s p h n b ∙ ap (λ (g : Got ℕ). then g (λ c r. over (λ cs. c ∷ cs) (readChars n r))) w) ∙ e)
+
+    pub name-step : (c e : ℕ) → CharAt s p (Code c e) → NameAt s p cs → (a : List ℕ) × (c ∷ a ≡ cs) × NameAt s e a
+    unfolding NameAt CharAt readChars
+    name-step c e w k = go (k .0) (k .1) (k .2) (k .3)
+      where
+        go : (n : ℕ) → length (drop p s) ≤ n → (r : List ℕ) → readChars n (drop p s) ≡ got cs r → (a : List ℕ) × (c ∷ a ≡ cs) × NameAt s e a
+        go zero l r f = no-bad f
+        go (suc n) l r f =
+            let q : readChars (suc n) (drop p s) ≡ over (λ cs. c ∷ cs) (readChars n (drop e s)) = chars-step s p h n b ∙ ap (λ (g : Got ℕ). then g (λ c r. over (λ cs. c ∷ cs) (readChars n r))) (w .2) in
+            let i = over-inv (λ cs. c ∷ cs) (readChars n (drop e s)) cs r (sym q ∙ f) in
+            (i .0, i .2, (n, omega (arith, farther s p e (omega (arith, w .0)) h), r, i .1))
+
+-- TWO STRINGS
+
+module _ (s : List ℕ) (i j : ℕ) where
+  pub same-out-i : length s ≤ i → SameText s i j false
+  unfolding SameText
+  same-out-i h cs ds k l = name-out s i cs h k
+
+  pub same-out-j : length s ≤ j → SameText s i j false
+  unfolding SameText
+  same-out-j h cs ds k l = name-out s j ds h l
+
+  module _ (h : i < length s) (h′ : j < length s) where
+    pub same-quote-i : getD s i 0 ≡ 0x22 → SameText s i j (eqb (getD s j 0) 0x22)
+    unfolding SameText eqList
+    same-quote-i b cs ds k l = go (eqb (getD s j 0) 0x22) refl
+      where
+        ec : cs ≡ []
+        ec = name-quote s i cs h b k
+
+        go : (t : Bool) → eqb (getD s j 0) 0x22 ≡ t → eqb (getD s j 0) 0x22 ≡ eqList cs ds
+        go true e = e ∙ sym (ap₂ eqList ec (name-quote s j ds h′ (eqb-true (getD s j 0) 0x22 e) l))
+        go false e = let a = name-some s j ds h′ (eqb-false (getD s j 0) 0x22 e) l in e ∙ sym (ap₂ eqList ec (sym (a .2)))
+
+    module _ (b : getD s i 0 ≡ 0x22 → ⊥) where
+      pub same-quote-j : getD s j 0 ≡ 0x22 → SameText s i j false
+      unfolding SameText eqList
+      same-quote-j b′ cs ds k l = let a = name-some s i cs h b k in sym (ap₂ eqList (sym (a .2)) (name-quote s j ds h′ b′ l))
+
+      pub same-wrong-i : CharAt s i Wrong → SameText s i j false
+      unfolding SameText
+      same-wrong-i w cs ds k l = name-wrong s i cs h b w k
+
+      module _ (b′ : getD s j 0 ≡ 0x22 → ⊥) where
+        pub same-wrong-j : CharAt s j Wrong → SameText s i j false
+        unfolding SameText
+        same-wrong-j w cs ds k l = name-wrong s j ds h′ b′ w l
+
+        module _ (x i₂ y j₂ : ℕ) (w : CharAt s i (Code x i₂)) (w′ : CharAt s j (Code y j₂)) where
+          pub same-step : (r : Bool) → x ≡ y → SameText s i₂ j₂ r → SameText s i j r
+          unfolding SameText eqList
+          same-step r e rest cs ds k l =
+              let a = name-step s i cs h b x i₂ w k in
+              let c = name-step s j ds h′ b′ y j₂ w′ l in
+              let q : eqList (x ∷ a .0) (y ∷ c .0) ≡ eqList (a .0) (c .0) = rw (eq-eqb x y e) in
+              rest (a .0) (c .0) (a .2) (c .2) ∙ sym q ∙ ap₂ eqList (a .1) (c .1)
+
+          pub same-differ : (x ≡ y → ⊥) → SameText s i j false
+          unfolding SameText eqList
+          same-differ e cs ds k l =
+              let a = name-step s i cs h b x i₂ w k in
+              let c = name-step s j ds h′ b′ y j₂ w′ l in
+              let q : eqList (x ∷ a .0) (y ∷ c .0) ≡ false = rw (ne-eqb x y e) in
+              sym q ∙ ap₂ eqList (a .1) (c .1)
+
+-- A STRING AND A WORD
+
+pub word-ended : (w : List ℕ) (at c : ℕ) (q q′ : End) → OctetsEnd w at c q → q ≡ q′ → OctetsEnd w at c q′
+word-ended w at c q q′ h e = subst (λ (x : End). OctetsEnd w at c x) e h
+
+pub word-after : (w : List ℕ) (at c e : ℕ) → OctetsEnd w at c (At e) → e ≤ length w
+unfolding OctetsEnd
+word-after w at c e h = h .1
+
+pub is-out : (s : List ℕ) (i : ℕ) (w : List ℕ) → length s ≤ i → TextIs s i w false
+unfolding TextIs
+is-out s i w h cs k = name-out s i cs h k
+
+module _ (s : List ℕ) (i : ℕ) (w : List ℕ) (k : ℕ) (h : i < length s) where
+  pub is-quote : getD s i 0 ≡ 0x22 → k ≤ length w → TextIs s i (drop k w) (eqb k (length w))
+  unfolding TextIs eqList utf8
+  is-quote b l cs n = go (eqb k (length w)) refl ∙ sym (ap (λ (x : List ℕ). eqList (utf8 x) (drop k w)) (name-quote s i cs h b n))
+    where
+      go : (t : Bool) → eqb k (length w) ≡ t → eqb k (length w) ≡ eqList [] (drop k w)
+      go true e = e ∙ sym (ap (eqList []) (drop-of-length-le w {i = k} (omega (arith, eqb-true k (length w) e))))
+      go false e = e ∙ sym (ap (eqList []) (at-byte w k (omega (arith, eqb-false k (length w) e))))
+
+  module _ (b : getD s i 0 ≡ 0x22 → ⊥) where
+    pub is-wrong : CharAt s i Wrong → TextIs s i (drop k w) false
+    unfolding TextIs
+    is-wrong x cs n = name-wrong s i cs h b x n
+
+    module _ (c e : ℕ) (x : CharAt s i (Code c e)) where
+      pub is-step : (m : ℕ) (r : Bool) → OctetsEnd w k c (At m) → TextIs s e (drop m w) r → TextIs s i (drop k w) r
+      unfolding TextIs utf8 OctetsEnd
+      is-step m r o rest cs n =
+          let a = name-step s i cs h b c e x n in
+          rest (a .0) (a .2) ∙ sym (o .2 (utf8 (a .0))) ∙ ap (λ (l : List ℕ). eqList (utf8 l) (drop k w)) (a .1)
+
+      pub is-differ : OctetsEnd w k c Bad → TextIs s i (drop k w) false
+      unfolding TextIs utf8 OctetsEnd
+      is-differ o cs n =
+          let a = name-step s i cs h b c e x n in
+          sym (o (utf8 (a .0))) ∙ ap (λ (l : List ℕ). eqList (utf8 l) (drop k w)) (a .1)

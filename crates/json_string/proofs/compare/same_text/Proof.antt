@@ -1,0 +1,106 @@
+-- `same_text` meets its contract. The loop's invariant: what is right for the rests of both strings is right for the strings.
+use native.Mathlib.Omega.{arith}
+use Prim.Native.Nat.{_≤_, _-_}
+use lib.ListN.{length}
+use mathlib.Core.Bool.{Bool}
+use borrow.Author.Needs.{needs}
+use Rattle.json_string.specs.Strings.{SameText}
+use Rattle.json_string.proofs.CharLaws.{scanned, char-after}
+use Rattle.json_string.proofs.TextLaws.{same-out-i, same-out-j, same-quote-i, same-quote-j, same-wrong-i, same-wrong-j, same-step, same-differ}
+use Rattle.json_string.proofs.compare.same_text.Statement.{statement}
+use Rattle.json_string.proofs.compare.same_text.Tie as tie
+
+abbrev Inv-loop : tie.InvT-loop
+Inv-loop s p q i₀ j₀ i j = (i ≤ length s) × (j ≤ length s) × ((r : Bool) → SameText s i j r → SameText s p q r)
+
+abbrev μ-loop : tie.MeasureT-loop
+μ-loop s p q i₀ j₀ i j = length s - i
+
+loop-holds : tie.Need-loop-holds Inv-loop μ-loop
+loop-holds c = (omega arith, omega arith, λ r h. h)
+
+shared-slice-read-if2 : tie.Need-shared-slice-read-if2 Inv-loop μ-loop
+shared-slice-read-if2 c = c .before .before .loop-test .taken
+
+shared-slice-read-result : tie.Need-shared-slice-read-result Inv-loop μ-loop
+shared-slice-read-result c = c .before .before .before .if1 .taken
+
+returns : tie.Need-returns Inv-loop μ-loop
+returns c = c .before .before .before .before .before .loop .inv .2 _ (same-quote-i _ _ _ (c .before .before .before .before .loop-test .taken) (c .before .before .before .if1 .taken) (c .before .if2 .taken))
+
+shared-slice-read-if3 : tie.Need-shared-slice-read-if3 Inv-loop μ-loop
+shared-slice-read-if3 c = c .before .before .before .if1 .taken
+
+returns-2 : tie.Need-returns-2 Inv-loop μ-loop
+returns-2 c = c .before .before .before .before .before .before .loop .inv .2 _ (same-quote-j _ _ _ (c .before .before .before .before .before .loop-test .taken) (c .before .before .before .before .if1 .taken) (c .before .before .if2 .left) (c .if3 .taken))
+
+char-at-requires : tie.Need-char-at-requires Inv-loop μ-loop
+char-at-requires c κs = c .before .before .before .before .before .loop-test .taken
+
+enum-known-x : tie.Need-enum-known-x Inv-loop μ-loop
+enum-known-x c = search needs
+
+enum-told : tie.Need-enum-told Inv-loop μ-loop
+enum-told c = search needs
+
+returns-3 : tie.Need-returns-3 Inv-loop μ-loop
+returns-3 c = c .before .before .before .before .before .before .before .before .before .loop .inv .2 _ (same-wrong-i _ _ _ (c .before .before .before .before .before .before .before .before .loop-test .taken) (c .before .before .before .before .before .before .before .if1 .taken) (c .before .before .before .before .before .if2 .left) (scanned _ _ _ _ (c .before .before .char-at .ensures) (c .enum-told .given .1)))
+
+char-at-requires-2 : tie.Need-char-at-requires-2 Inv-loop μ-loop
+char-at-requires-2 c κs = c .before .before .before .before .before .before .before .before .if1 .taken
+
+enum-known-y : tie.Need-enum-known-y Inv-loop μ-loop
+enum-known-y c = search needs
+
+enum-told-2 : tie.Need-enum-told-2 Inv-loop μ-loop
+enum-told-2 c = search needs
+
+returns-4 : tie.Need-returns-4 Inv-loop μ-loop
+returns-4 c = c .before .before .before .before .before .before .before .before .before .before .before .before .before .loop .inv .2 _ (same-wrong-j _ _ _ (c .before .before .before .before .before .before .before .before .before .before .before .before .loop-test .taken) (c .before .before .before .before .before .before .before .before .before .before .before .if1 .taken) (c .before .before .before .before .before .before .before .before .before .if2 .left) (c .before .before .before .before .before .before .before .if3 .left) (scanned _ _ _ _ (c .before .before .char-at2 .ensures) (c .enum-told2 .given .1)))
+
+loop-less : tie.Need-loop-less Inv-loop μ-loop
+loop-less c = omega (arith, c .before .before .before .before .before .before .before .before .before .before .before .before .before .before .loop-test .taken, char-after _ _ _ _ (scanned _ _ _ _ (c .before .before .before .before .before .before .before .before .char-at .ensures) (c .before .before .before .before .before .before .x .given .1)))
+
+loop-again : tie.Need-loop-again Inv-loop μ-loop
+loop-again c =
+    let x = scanned _ _ _ _ (c .before .before .before .before .before .before .before .before .char-at .ensures) (c .before .before .before .before .before .before .x .given .1) in
+    let y = scanned _ _ _ _ (c .before .before .before .before .char-at2 .ensures) (c .before .before .y .given .1) in (
+      char-after _ _ _ _ x .1,
+      char-after _ _ _ _ y .1,
+      λ r h. c .before .before .before .before .before .before .before .before .before .before .before .before .before .before .before .loop .inv .2 r (same-step _ _ _ (c .before .before .before .before .before .before .before .before .before .before .before .before .before .before .loop-test .taken) (c .before .before .before .before .before .before .before .before .before .before .before .before .before .if1 .taken) (c .before .before .before .before .before .before .before .before .before .before .before .if2 .left) (c .before .before .before .before .before .before .before .before .before .if3 .left) _ _ _ _ x y r (c .if4 .taken) h),
+    )
+
+returns-5 : tie.Need-returns-5 Inv-loop μ-loop
+returns-5 c = c .before .before .before .before .before .before .before .before .before .before .before .before .before .before .before .loop .inv .2 _ (same-differ _ _ _ (c .before .before .before .before .before .before .before .before .before .before .before .before .before .before .loop-test .taken) (c .before .before .before .before .before .before .before .before .before .before .before .before .before .if1 .taken) (c .before .before .before .before .before .before .before .before .before .before .before .if2 .left) (c .before .before .before .before .before .before .before .before .before .if3 .left) _ _ _ _ (scanned _ _ _ _ (c .before .before .before .before .before .before .before .before .char-at .ensures) (c .before .before .before .before .before .before .x .given .1)) (scanned _ _ _ _ (c .before .before .before .before .char-at2 .ensures) (c .before .before .y .given .1)) (c .if4 .left))
+
+returns-6 : tie.Need-returns-6 Inv-loop μ-loop
+returns-6 c = c .before .before .loop .inv .2 _ (same-out-j _ _ _ (c .if1 .left))
+
+returns-7 : tie.Need-returns-7 Inv-loop μ-loop
+returns-7 c = c .before .loop .inv .2 _ (same-out-i _ _ _ (c .loop-test .left))
+
+pub same-text-spec : {M : Type 1} → statement M
+same-text-spec =
+    tie.close
+    (tie.spec
+    Inv-loop
+    μ-loop
+    loop-holds
+    shared-slice-read-if2
+    shared-slice-read-result
+    returns
+    shared-slice-read-if3
+    returns-2
+    char-at-requires
+    enum-known-x
+    enum-told
+    returns-3
+    char-at-requires-2
+    enum-known-y
+    enum-told-2
+    returns-4
+    loop-less
+    loop-again
+    returns-5
+    returns-6
+    returns-7)

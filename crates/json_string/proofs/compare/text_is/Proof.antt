@@ -1,0 +1,83 @@
+-- `text_is` meets its contract. The loop's invariant: what is right for the rests of the string and of the word is right for both.
+use native.Mathlib.Omega.{arith}
+use Prim.Native.Nat.{_≤_, _-_}
+use lib.ListN.{length, drop}
+use mathlib.Core.Bool.{Bool}
+use borrow.Author.Needs.{needs}
+use Rattle.json_string.specs.Strings.{TextIs}
+use Rattle.json_string.proofs.CharLaws.{scanned, char-after, char-most}
+use Rattle.json_string.proofs.TextLaws.{word-ended, word-after, is-out, is-quote, is-wrong, is-step, is-differ}
+use Rattle.json_string.proofs.compare.text_is.Statement.{statement}
+use Rattle.json_string.proofs.compare.text_is.Tie as tie
+
+abbrev Inv-loop : tie.InvT-loop
+Inv-loop s p word i₀ k₀ i k = (i ≤ length s) × (k ≤ length word) × ((r : Bool) → TextIs s i (drop k word) r → TextIs s p word r)
+
+abbrev μ-loop : tie.MeasureT-loop
+μ-loop s p word i₀ k₀ i k = length s - i
+
+loop-holds : tie.Need-loop-holds Inv-loop μ-loop
+loop-holds c = (omega arith, omega arith, λ r h. h)
+
+shared-slice-read-if1 : tie.Need-shared-slice-read-if1 Inv-loop μ-loop
+shared-slice-read-if1 c = c .before .loop-test .taken
+
+returns : tie.Need-returns Inv-loop μ-loop
+returns c = c .before .before .before .loop .inv .2 _ (is-quote _ _ _ _ (c .before .before .loop-test .taken) (c .if1 .taken) (c .before .before .before .loop .inv .1))
+
+char-at-requires : tie.Need-char-at-requires Inv-loop μ-loop
+char-at-requires c κs = c .before .before .loop-test .taken
+
+enum-known-c : tie.Need-enum-known-c Inv-loop μ-loop
+enum-known-c c = search needs
+
+enum-told : tie.Need-enum-told Inv-loop μ-loop
+enum-told c = search needs
+
+returns-2 : tie.Need-returns-2 Inv-loop μ-loop
+returns-2 c = c .before .before .before .before .before .before .loop .inv .2 _ (is-wrong _ _ _ (c .before .before .before .before .before .before .loop .k) (c .before .before .before .before .before .loop-test .taken) (c .before .before .before .if1 .left) (scanned _ _ _ _ (c .before .before .char-at .ensures) (c .enum-told .given .1)))
+
+octets-end-requires : tie.Need-octets-end-requires Inv-loop μ-loop
+octets-end-requires c κs = (c .before .before .before .before .before .before .before .loop .inv .1, char-most _ _ _ _ (scanned _ _ _ _ (c .before .before .before .char-at .ensures) (c .before .c .given .1)))
+
+enum-known-e : tie.Need-enum-known-e Inv-loop μ-loop
+enum-known-e c = search needs
+
+enum-told-2 : tie.Need-enum-told-2 Inv-loop μ-loop
+enum-told-2 c = search needs
+
+returns-3 : tie.Need-returns-3 Inv-loop μ-loop
+returns-3 c = c .before .before .before .before .before .before .before .before .before .before .loop .inv .2 _ (is-differ _ _ _ _ (c .before .before .before .before .before .before .before .before .before .loop-test .taken) (c .before .before .before .before .before .before .before .if1 .left) _ _ (scanned _ _ _ _ (c .before .before .before .before .before .before .char-at .ensures) (c .before .before .before .before .c .given .1)) (word-ended _ _ _ _ _ (c .before .before .octets-end .ensures) (c .enum-told2 .given .1)))
+
+loop-less : tie.Need-loop-less Inv-loop μ-loop
+loop-less c = omega (arith, c .before .before .before .before .before .before .before .before .before .before .loop-test .taken, char-after _ _ _ _ (scanned _ _ _ _ (c .before .before .before .before .before .before .before .char-at .ensures) (c .before .before .before .before .before .c .given .1)))
+
+loop-again : tie.Need-loop-again Inv-loop μ-loop
+loop-again c =
+    let x = scanned _ _ _ _ (c .before .before .before .before .before .before .before .char-at .ensures) (c .before .before .before .before .before .c .given .1) in
+    let o = word-ended _ _ _ _ _ (c .before .before .before .octets-end .ensures) (c .before .e .given .1) in
+    (char-after _ _ _ _ x .1, word-after _ _ _ _ o, λ r h. c .before .before .before .before .before .before .before .before .before .before .before .loop .inv .2 r (is-step _ _ _ _ (c .before .before .before .before .before .before .before .before .before .before .loop-test .taken) (c .before .before .before .before .before .before .before .before .if1 .left) _ _ x _ r o h))
+
+returns-4 : tie.Need-returns-4 Inv-loop μ-loop
+returns-4 c = c .before .loop .inv .2 _ (is-out _ _ _ (c .loop-test .left))
+
+pub text-is-spec : {M : Type 1} → statement M
+text-is-spec =
+    tie.close
+    (tie.spec
+    Inv-loop
+    μ-loop
+    loop-holds
+    shared-slice-read-if1
+    returns
+    char-at-requires
+    enum-known-c
+    enum-told
+    returns-2
+    octets-end-requires
+    enum-known-e
+    enum-told-2
+    returns-3
+    loop-less
+    loop-again
+    returns-4)

@@ -1,0 +1,96 @@
+-- `low` meets its contract.
+use mathlib.Core.Path.{refl, sym, _∙_}
+use native.Mathlib.Omega.{arith}
+use Rattle.json_grammar.specs.Bytes.{pairCode}
+use Rattle.json_grammar.specs.Reader.{readHex}
+use Rattle.json_string.proofs.ScanLaws.{scanned}
+use Rattle.json_string.proofs.EscapeLaws.{pair-high, pair-low, low-short, low-no-escape, low-no-u, low-no-hex, low-is, low-not}
+use borrow.Author.Needs.{needs}
+use Rattle.json_string.proofs.escapes.low.Statement.{statement}
+use Rattle.json_string.proofs.escapes.low.Tie as tie
+
+sub-if1 : tie.Need-sub-if1
+sub-if1 c = omega arith
+
+returns : tie.Need-returns
+returns c = low-short _ _ _ (c .if1 .taken)
+
+shared-slice-read-if2 : tie.Need-shared-slice-read-if2
+shared-slice-read-if2 c = omega arith
+
+returns-2 : tie.Need-returns-2
+returns-2 c = low-no-escape _ _ _ (omega (arith, c .before .before .if1 .left)) (c .if2 .taken)
+
+add-if3 : tie.Need-add-if3
+add-if3 c = omega arith
+
+shared-slice-read-if3 : tie.Need-shared-slice-read-if3
+shared-slice-read-if3 c = omega arith
+
+returns-3 : tie.Need-returns-3
+returns-3 c = low-no-u _ _ _ (omega (arith, c .before .before .before .before .if1 .left)) (c .before .before .if2 .left) (c .if3 .taken)
+
+add-hex : tie.Need-add-hex
+add-hex c = omega arith
+
+hex-requires : tie.Need-hex-requires
+hex-requires c κs = omega arith
+
+enum-known-x : tie.Need-enum-known-x
+enum-known-x c = search needs
+
+enum-told : tie.Need-enum-told
+enum-told c = search needs
+
+returns-4 : tie.Need-returns-4
+returns-4 c = low-no-hex _ _ _ (omega (arith, c .before .before .before .before .before .before .before .if1 .left)) (c .before .before .before .before .before .if2 .left) (c .before .before .before .if3 .left) (scanned readHex _ _ _ _ (c .before .before .hex .ensures) (c .enum-told .given .1))
+
+is-low-requires : tie.Need-is-low-requires
+is-low-requires c κs = tt
+
+sub-t14 : tie.Need-sub-t14
+sub-t14 c = pair-high _ (c .before .before .before .before .before .before .before .before .before .before .before .before .pre .1) .0
+
+mul-t15 : tie.Need-mul-t15
+mul-t15 c = omega (arith, pair-high _ (c .before .before .before .before .before .before .before .before .before .before .before .before .pre .1))
+
+add-t16 : tie.Need-add-t16
+add-t16 c = omega (arith, pair-high _ (c .before .before .before .before .before .before .before .before .before .before .before .before .pre .1))
+
+sub-t17 : tie.Need-sub-t17
+sub-t17 c = pair-low _ (sym (c .before .is-low .ensures) ∙ c .if4 .taken) .0
+
+add-t18 : tie.Need-add-t18
+add-t18 c = omega (arith, pair-high _ (c .before .before .before .before .before .before .before .before .before .before .before .before .pre .1), pair-low _ (sym (c .before .is-low .ensures) ∙ c .if4 .taken))
+
+returns-5 : tie.Need-returns-5
+unfolding pairCode
+returns-5 c = low-is _ _ _ (omega (arith, c .before .before .before .before .before .before .before .before .before .before .if1 .left)) (c .before .before .before .before .before .before .before .before .if2 .left) (c .before .before .before .before .before .before .if3 .left) _ _ _ (scanned readHex _ _ _ _ (c .before .before .before .before .before .hex .ensures) (c .before .before .before .x .given .1)) (sym (c .before .is-low .ensures) ∙ c .if4 .taken) refl
+
+returns-6 : tie.Need-returns-6
+returns-6 c = low-not _ _ _ (omega (arith, c .before .before .before .before .before .before .before .before .before .before .if1 .left)) (c .before .before .before .before .before .before .before .before .if2 .left) (c .before .before .before .before .before .before .if3 .left) _ _ (scanned readHex _ _ _ _ (c .before .before .before .before .before .hex .ensures) (c .before .before .before .x .given .1)) (sym (c .before .is-low .ensures) ∙ c .if4 .left)
+
+pub low-spec : {M : Type 1} → statement M
+low-spec =
+    tie.close
+    (tie.spec
+    sub-if1
+    returns
+    shared-slice-read-if2
+    returns-2
+    add-if3
+    shared-slice-read-if3
+    returns-3
+    add-hex
+    hex-requires
+    enum-known-x
+    enum-told
+    returns-4
+    is-low-requires
+    sub-t14
+    mul-t15
+    add-t16
+    sub-t17
+    add-t18
+    returns-5
+    returns-6)

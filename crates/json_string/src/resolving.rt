@@ -1,0 +1,55 @@
+// A string's value as UTF-8.
+ghost use mathlib.Core.List.{[]};
+ghost use Prim.Native.Nat.{_≤_};
+ghost use lib.ListN.{length};
+ghost use Rattle.json_string.specs.Strings.{Resolves};
+ghost use Rattle.json_string.specs.Steps.{Writes};
+use crate::End;
+use crate::Resolved;
+use crate::Scan;
+use crate::strings::char_at;
+use crate::utf8::octets_of;
+use common::copy_at;
+use common::zero;
+
+// Writes the octets of the string at p to the front of `out`, and answers how many they are, if it has room for them.
+fn write(s: &[u8], p: usize, out: &mut [u8]) -> End
+    requires { ⌜ p ≤ length (now s) ⌝ }
+    ensures { λ r. ⌜ Writes (now (s .entry)) p [] (now (out .entry)) (now (out .exit)) r ⌝ }
+{
+    let mut i = p;
+    let mut n: usize = 0;
+    while i < s.len() {
+        if s[i] == 0x22 {
+            return End::At(n);
+        }
+        let Scan::Code(c, next) = char_at(s, i) else {
+            return End::Bad;
+        };
+        let o = octets_of(c);
+        let count = o.count;
+        let bytes = o.bytes;
+        if out.len() - n < count {
+            return End::Bad;
+        }
+        copy_at(out, n, &bytes[..count]);
+        n += count;
+        i = next;
+    }
+    End::Bad
+}
+
+// Writes the string at p, in UTF-8, to the front of `out`, or clears `out` where it has no room for all of it. Rules out octets
+// cut off at the buffer's end, and octets left in a buffer that is too short.
+pub fn resolve(s: &[u8], p: usize, out: &mut [u8]) -> Resolved
+    requires { ⌜ p ≤ length (now s) ⌝ }
+    ensures { λ r. ⌜ Resolves (now (s .entry)) p (now (out .entry)) (now (out .exit)) r ⌝ }
+{
+    match write(s, p, out) {
+        End::At(n) => Resolved::Bytes(n),
+        End::Bad => {
+            zero(out);
+            Resolved::Long
+        }
+    }
+}
