@@ -1,0 +1,149 @@
+-- What a header answers, and its members: a law for each way through each function.
+use mathlib.Core.Path.{_≡_, refl, sym, ap, ap₂, _∙_, subst}
+use mathlib.Core.Bool.{Bool, true, false, not}
+use mathlib.Core.List.{List, [], _∷_}
+use Prim.Native.Nat.{ℕ, zero, suc, _+_, _-_, _≤_, _<_}
+use native.Mathlib.Omega.{arith}
+use lib.Dec.{ltb}
+use lib.ListN.{length, drop, getD, length-drop, drop-of-length-le}
+use borrow.Author.Tests.{lt-ltb, le-ltb}
+use Rattle.common.specs.First.{Test, _when_, first}
+use Rattle.json_grammar.specs.Value.{LValue, LItem, LMembers, item, named, lnil, lcons, plain, plainMembers, objectV, twice}
+use Rattle.json_grammar.specs.Places.{Kind, kindOf, margin, pos, placed, Found, no-member, found, member}
+use Rattle.json_grammar.specs.Reader.{Got, bad, got, then, expect, ws, readObject, ends-by, read}
+use Rattle.json_grammar.specs.ReaderLaws.{no-bad, then-inv, expect-inv}
+use Rattle.json_grammar.specs.ScanLaws.{scan-read}
+use Rattle.json_string.specs.declared.End.{End}
+use Rattle.json_string.specs.declared.End.the-variants.{At, Bad}
+use Rattle.json_string.specs.Ends.{at-byte}
+use Rattle.json_reader.specs.Contracts.{SkipsTo, isText}
+use Rattle.json.specs.declared.places.Place.{Place}
+use Rattle.json.specs.declared.steps.Entry.{Entry}
+use Rattle.json.specs.declared.places.Member.{Member}
+use Rattle.json.specs.declared.places.Member.the-variants.{Refused}
+use Rattle.json.specs.Members.{MembersAt, MembersFrom, FirstMember, TopMembers, EntryAt, kindIn}
+use Rattle.json.specs.Twice.{TwiceFrom}
+use Rattle.json.specs.Answers.{longest, deepest, membersIn, twiceIn, headerTests, checked, shownBy, place, answerFor, unlessRefused, memberOf, Picks}
+use Rattle.json.specs.MemberLaws.{no-members, text-read, checked-read}
+use Rattle.json.proofs.SequenceLaws.{never}
+
+-- THE HEADER'S ANSWER
+
+pub check-long : (h : List ℕ) → longest < length h → 5 ≡ checked h
+unfolding checked headerTests
+check-long h k = rw (lt-ltb longest (length h) k)
+
+module _ (h : List ℕ) (k : length h ≤ longest) where
+  pub check-other : {b : Bool} → b ≡ isText deepest h → b ≡ false → 7 ≡ checked h
+  unfolding checked headerTests
+  check-other e f = rw (le-ltb longest (length h) k, sym e ∙ f)
+
+  module _ {b t : Bool} (e : b ≡ isText deepest h) (f : b ≡ true) (w : TwiceFrom h 0 deepest t) where
+    check-text : checked h ≡ first (8 when t ∷ [])
+    unfolding checked headerTests
+    check-text =
+        let r = text-read deepest h (sym e ∙ f) in
+        let z : twiceIn (membersIn (read deepest h)) ≡ t =
+        ap (λ (g : Got LMembers). twiceIn (membersIn g)) (r .2) ∙ sym (scan-read (length h) deepest deepest h (r .0) (r .1) (r .2) (omega arith) (omega arith))
+        ∙ sym (w .is (length h) (omega arith)) in
+        rw (le-ltb longest (length h) k, sym e ∙ f, z)
+
+    pub check-twice : t ≡ true → 8 ≡ checked h
+    check-twice c = sym (check-text ∙ ap (λ (x : Bool). first (8 when x ∷ [])) c)
+
+    pub check-fine : t ≡ false → 0 ≡ checked h
+    check-fine c = sym (check-text ∙ ap (λ (x : Bool). first (8 when x ∷ [])) c)
+
+-- THE TOP OBJECT
+
+ends-same : (ns : LMembers) (y : List ℕ) (ms : LMembers) (x : List ℕ) → ends-by ns y ≡ got ms x → ns ≡ ms
+ends-same ns [] ms x e = cc
+ends-same ns (b ∷ y) ms x e = no-bad e
+
+module _ {h : List ℕ} {at : ℕ} (w : SkipsTo h 0 at) where
+  pub top-is : {r : End} → at < length h → FirstMember h at r → TopMembers h r
+  unfolding read
+  top-is {r} k f = record {
+    within = f .within;
+    is = λ d ms x e.
+        let i = expect-inv 0x7B (ws h) (λ y. then (readObject (length h) d y) (λ ns z. ends-by ns (ws z))) ms x e in
+        let j = then-inv (readObject (length h) d (i .0)) (λ ns z. ends-by ns (ws z)) ms x (i .2) in
+        let tail-is : 0x7B ∷ i .0 ≡ getD h at 0 ∷ drop (at + 1) h = sym (i .1) ∙ w .is ∙ at-byte h at k in
+        let y-is : i .0 ≡ drop (at + 1) h = cc in
+        f .is d ms (record {
+          fuel = length h;
+          enough = omega (arith, length-drop (at + 1) h);
+          left = j .1;
+          reads = ap (readObject (length h) d) (sym y-is) ∙ j .2 ∙ ap (λ (ns : LMembers). got ns (j .1)) (ends-same (j .0) (ws (j .1)) ms x (j .3));
+        });
+  }
+
+  pub top-out : length h ≤ at → TopMembers h Bad
+  unfolding read
+  top-out k = record {
+    within = λ p e. never e;
+    is = λ d ms x e. no-bad (sym (ap (λ (y : List ℕ). expect 0x7B y (λ z. then (readObject (length h) d z) (λ ns u. ends-by ns (ws u)))) (w .is ∙ drop-of-length-le h k)) ∙ e);
+  }
+
+-- a callee's contract at the answer that it gave
+pub tops : {h : List ℕ} {x y : End} → x ≡ y → TopMembers h x → TopMembers h y
+tops {h} e t = subst (λ (z : End). TopMembers h z) e t
+
+-- MEMBER k
+
+module _ {s : List ℕ} {p : ℕ} (d : ℕ) {e : Entry} (en : EntryAt s p d e) where
+  pub pick-here : {k : ℕ} {r : Member} → k ≡ 0 → r ≡ shownBy (kindIn (e .kind)) (e .name) (e .value) → Picks s p d k r
+  unfolding member placed answerFor
+  pick-here {k} {r} z c = subst (λ (x : ℕ). Picks s p d x r) (sym z) (record { is = go })
+    where
+      go : (ms : LMembers) → MembersAt s p d ms → r ≡ answerFor (member s 0 ms)
+      go lnil m = no-members d m
+      go (lcons (named f t n (item a b v)) ms) m =
+          let i = en .is f t n a b v ms m in
+          c ∙ ap (λ (k : Kind). shownBy k (e .name) (e .value)) (i .1 .kind)
+          ∙ ap₂ (shownBy (kindOf (plain v))) (ap₂ place (i .0 .start) (i .0 .end)) (ap₂ place (i .1 .start) (i .1 .end))
+
+  pub pick-next : {q : ℕ} {r : Member} (k : ℕ) → (k ≡ 0 → ⊥) → e .next ≡ At q → Picks s q d (k - 1) r → Picks s p d k r
+  unfolding member
+  pick-next zero z c w = absurd (z refl)
+  pick-next {q} {r} (suc k) z c w = record { is = go }
+    where
+      go : (ms : LMembers) → MembersAt s p d ms → r ≡ answerFor (member s (suc k) ms)
+      go lnil m = no-members d m
+      go (lcons (named f t n (item a b v)) ms) m =
+          let j : suc k - 1 ≡ k = omega arith in
+          w .is ms (subst (λ (x : End). MembersFrom s d x ms) c (en .is f t n a b v ms m .2)) ∙ ap (λ (x : ℕ). answerFor (member s x ms)) j
+
+  pub pick-none : (k : ℕ) → (k ≡ 0 → ⊥) → e .next ≡ Bad → Picks s p d k (Refused 16)
+  unfolding member answerFor
+  pick-none zero z c = absurd (z refl)
+  pick-none (suc k) z c = record { is = go }
+    where
+      go : (ms : LMembers) → MembersAt s p d ms → Refused 16 ≡ answerFor (member s (suc k) ms)
+      go lnil m = no-members d m
+      go (lcons (named f t n (item a b v)) ms) m =
+          let o : ms ≡ lnil = subst (λ (x : End). MembersFrom s d x ms) c (en .is f t n a b v ms m .2) in
+          sym (ap (λ (x : LMembers). answerFor (member s k x)) o)
+
+module _ (h : List ℕ) (k : ℕ) where
+  pub member-refused : (n : ℕ) → n ≡ checked h → (n ≡ 0 → ⊥) → Refused n ≡ memberOf h k
+  unfolding memberOf unlessRefused
+  member-refused zero e z = absurd (z refl)
+  member-refused (suc n) e z = ap (λ (x : ℕ). unlessRefused x (answerFor (member h k (membersIn (read deepest h))))) e
+
+  module _ {n : ℕ} (e : n ≡ checked h) (z : n ≡ 0) where
+    -- the members of the header, where it is not refused
+    member-is : (r : Member) → ((ms : LMembers) (x : List ℕ) → read deepest h ≡ got ms x → r ≡ answerFor (member h k ms)) → r ≡ memberOf h k
+    unfolding memberOf unlessRefused
+    member-is r f =
+        let c : checked h ≡ 0 = sym e ∙ z in
+        let i = checked-read h c in
+        f (i .0) (i .1) (i .2) ∙ ap (λ (g : Got LMembers). answerFor (member h k (membersIn g))) (sym (i .2))
+        ∙ ap (λ (x : ℕ). unlessRefused x (answerFor (member h k (membersIn (read deepest h))))) (sym c)
+
+    pub member-none : TopMembers h Bad → Refused 16 ≡ memberOf h k
+    unfolding member answerFor
+    member-none t = member-is (Refused 16) (λ ms x c. ap (λ (y : LMembers). answerFor (member h k y)) (sym (t .is deepest ms x c)))
+
+    pub member-picked : {p : ℕ} {r : Member} → TopMembers h (At p) → Picks h p (deepest - 1) k r → r ≡ memberOf h k
+    member-picked {p} {r} t w = member-is r (λ ms x c. w .is ms (t .is deepest ms x c))

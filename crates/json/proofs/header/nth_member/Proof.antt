@@ -1,0 +1,67 @@
+use mathlib.Core.Path.{_≡_}
+use Prim.Native.Nat.{_<_}
+use native.Mathlib.Omega.{arith}
+use lib.ListN.{length}
+use borrow.Author.Needs.{needs}
+use Rattle.json.specs.declared.places.Member.{Member}
+use Rattle.json.specs.Answers.{Picks}
+use Rattle.json.proofs.HeaderLaws as law
+use Rattle.json.proofs.header.nth_member.Statement.{statement}
+use Rattle.json.proofs.header.nth_member.Tie as tie
+use Rattle.json.proofs.header.nth_member.Reads as reads
+use Rattle.json.proofs.header.nth_member.Lts as lts
+use Rattle.json.proofs.header.shown.Reads as shown-reads
+use Rattle.json.proofs.steps.entry_at.Reads as entry-at-reads
+
+abbrev Inv-loop : tie.InvT-loop
+Inv-loop s from depth k p₀ left₀ p left = (p < length s) × ((r : Member) → Picks s p depth left r → Picks s from depth k r)
+
+abbrev μ-loop : tie.MeasureT-loop
+μ-loop s from depth k p₀ left₀ p left = left
+
+loop-holds : tie.Need-loop-holds Inv-loop μ-loop
+loop-holds c = (omega arith, λ r h. h)
+
+entry-at-requires : tie.Need-entry-at-requires Inv-loop μ-loop
+entry-at-requires c κs = omega arith
+
+shown-requires : tie.Need-shown-requires Inv-loop μ-loop
+shown-requires c κs = search needs
+
+returns : tie.Need-returns Inv-loop μ-loop
+returns c = c .before .before .before .before .before .loop .inv .1 _ (law.pick-here _ (c .before .before .before .before .entry-at .ensures) (c .before .before .before .if1 .taken) (c .shown .ensures))
+
+enum-known-next : tie.Need-enum-known-next Inv-loop μ-loop
+enum-known-next c = search needs
+
+sub-left : tie.Need-sub-left Inv-loop μ-loop
+sub-left c = omega arith
+
+loop-less : tie.Need-loop-less Inv-loop μ-loop
+loop-less c = omega arith
+
+loop-again : tie.Need-loop-again Inv-loop μ-loop
+loop-again c = (c .before .before .before .before .entry-at .ensures .later _ (c .before .next .given .1) .1, λ r h. c .before .before .before .before .before .loop .inv .1 r (law.pick-next _ (c .before .before .before .before .entry-at .ensures) _ (c .before .before .before .if1 .left) (c .before .next .given .1) h))
+
+enum-told : tie.Need-enum-told Inv-loop μ-loop
+enum-told c = search needs
+
+returns-2 : tie.Need-returns-2 Inv-loop μ-loop
+returns-2 c = c .before .before .before .before .loop .inv .1 _ (law.pick-none _ (c .before .before .before .entry-at .ensures) _ (c .before .before .if1 .left) (c .enum-told .given .1))
+
+pub nth-member-spec : {M : Type 1} → statement M
+nth-member-spec =
+    tie.close
+    (tie.spec
+    Inv-loop
+    μ-loop
+    loop-holds
+    entry-at-requires
+    shown-requires
+    returns
+    enum-known-next
+    sub-left
+    loop-less
+    loop-again
+    enum-told
+    returns-2)

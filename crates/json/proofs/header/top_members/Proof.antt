@@ -1,0 +1,23 @@
+use Rattle.json.proofs.HeaderLaws as law
+use borrow.Author.Needs.{needs}
+use Rattle.json.proofs.header.top_members.Statement.{statement}
+use Rattle.json.proofs.header.top_members.Tie as tie
+use Rattle.json.proofs.header.top_members.Reads as reads
+use Rattle.json.proofs.header.top_members.Lts as lts
+use Rattle.json.proofs.steps.first_member.Reads as first-member-reads
+use Rattle.json_reader.proofs.skip_ws.Reads as skip-ws-reads
+
+skip-ws-requires : tie.Need-skip-ws-requires
+skip-ws-requires c κs = search needs
+
+first-member-requires : tie.Need-first-member-requires
+first-member-requires c κs = search needs
+
+returns : tie.Need-returns
+returns c = law.top-is (c .before .before .skip-ws .ensures) (c .before .if1 .taken) (c .first-member .ensures)
+
+returns-2 : tie.Need-returns-2
+returns-2 c = law.top-out (c .before .skip-ws .ensures) (c .if1 .left)
+
+pub top-members-spec : {M : Type 1} → statement M
+top-members-spec = tie.close (tie.spec skip-ws-requires first-member-requires returns returns-2)

@@ -1,0 +1,128 @@
+use lib.ListN.{length-set}
+use mathlib.Core.Path.{_≡_, refl}
+use Prim.Native.Nat.{_+_, _-_, _≤_, _<_}
+use native.Mathlib.Omega.{arith}
+use lib.ListN.{length}
+use borrow.Author.Needs.{needs}
+use Rattle.json.proofs.NameLaws.{Without, Filling}
+use Rattle.json.proofs.NameLaws as law
+use Rattle.json.proofs.names.block_twice.Statement.{statement}
+use Rattle.json.proofs.names.block_twice.Tie as tie
+use Rattle.json.proofs.names.block_twice.Reads as reads
+use Rattle.json.proofs.names.block_twice.Lts as lts
+use Rattle.json.proofs.names.block_meets.Reads as block-meets-reads
+use Rattle.json.proofs.steps.entry_at.Reads as entry-at-reads
+use Rattle.json_string.proofs.same_text.Reads as same-text-reads
+
+abbrev Inv-loop : tie.InvT-loop
+Inv-loop s from depth names count p i₀ i = (i ≤ count) × Without s names i (p + 1)
+
+abbrev μ-loop : tie.MeasureT-loop
+μ-loop s from depth names count p i₀ i = count - i
+
+abbrev Inv-pairs : tie.InvT-pairs
+Inv-pairs s from depth names₀ count₀ p₀ names count p = (count ≤ 64) × (length names ≡ 64) × Filling s depth from names count p
+
+abbrev μ-pairs : tie.MeasureT-pairs
+μ-pairs s from depth names₀ count₀ p₀ names count p = 64 - count
+
+pairs-holds : tie.Need-pairs-holds Inv-loop μ-loop Inv-pairs μ-pairs
+pairs-holds c = (omega arith, refl, law.filling-start _ _ (omega arith))
+
+block-meets-requires : tie.Need-block-meets-requires Inv-loop μ-loop Inv-pairs μ-pairs
+block-meets-requires c κs = let f = law.full (c .before .if1 .taken) (c .before .before .pairs .inv .2) in (f .high, f .places)
+
+returns : tie.Need-returns Inv-loop μ-loop Inv-pairs μ-pairs
+returns c = law.filling-met _ (law.full (c .before .before .before .if1 .taken) (c .before .before .before .before .pairs .inv .2)) (c .before .block-meets .ensures) (c .if2 .taken)
+
+returns-2 : tie.Need-returns-2 Inv-loop μ-loop Inv-pairs μ-pairs
+returns-2 c = law.filling-past _ (law.full (c .before .before .before .if1 .taken) (c .before .before .before .before .pairs .inv .2)) (c .before .block-meets .ensures) (c .if2 .left) (omega arith)
+
+loop-holds : tie.Need-loop-holds Inv-loop μ-loop Inv-pairs μ-pairs
+loop-holds c = (omega arith, law.without-start _)
+
+add-same-text : tie.Need-add-same-text Inv-loop μ-loop Inv-pairs μ-pairs
+add-same-text c = omega arith
+
+mul-same-text : tie.Need-mul-same-text Inv-loop μ-loop Inv-pairs μ-pairs
+mul-same-text c = search needs
+
+array-read-same-text : tie.Need-array-read-same-text Inv-loop μ-loop Inv-pairs μ-pairs
+array-read-same-text c = omega arith
+
+same-text-requires : tie.Need-same-text-requires Inv-loop μ-loop Inv-pairs μ-pairs
+same-text-requires c κs = (omega (arith, c .before .before .before .pairs .inv .2 .high), c .before .before .before .pairs .inv .2 .places _ (c .loop-test .taken))
+
+add-i : tie.Need-add-i Inv-loop μ-loop Inv-pairs μ-pairs
+add-i c = omega arith
+
+loop-less : tie.Need-loop-less Inv-loop μ-loop Inv-pairs μ-pairs
+loop-less c = omega arith
+
+loop-again : tie.Need-loop-again Inv-loop μ-loop Inv-pairs μ-pairs
+loop-again c = (omega arith, law.without-next (c .before .before .before .loop .inv .1) (law.texts _ _ _ (c .if3 .left) (c .before .same-text .ensures)))
+
+entry-at-requires : tie.Need-entry-at-requires Inv-loop μ-loop Inv-pairs μ-pairs
+entry-at-requires c κs = omega arith
+
+add-names : tie.Need-add-names Inv-loop μ-loop Inv-pairs μ-pairs
+add-names c = omega arith
+
+mul-names : tie.Need-mul-names Inv-loop μ-loop Inv-pairs μ-pairs
+mul-names c = search needs
+
+array-write-names : tie.Need-array-write-names Inv-loop μ-loop Inv-pairs μ-pairs
+array-write-names c = omega arith
+
+add-count : tie.Need-add-count Inv-loop μ-loop Inv-pairs μ-pairs
+add-count c = omega arith
+
+enum-known-next : tie.Need-enum-known-next Inv-loop μ-loop Inv-pairs μ-pairs
+enum-known-next c = search needs
+
+pairs-less : tie.Need-pairs-less Inv-loop μ-loop Inv-pairs μ-pairs
+pairs-less c = omega arith
+
+pairs-again : tie.Need-pairs-again Inv-loop μ-loop Inv-pairs μ-pairs
+pairs-again c = (omega arith, simp length-set (c .before .before .before .before .before .before .before .pairs .inv .1), law.filling-next _ (c .before .before .before .before .before .before .before .pairs .inv .2) (law.without-all (c .before .before .before .before .before .loop .inv .1) (c .before .before .before .before .before .loop .inv .0) (c .before .before .before .before .loop-test .left)) (c .before .before .before .entry-at .ensures) (c .before .next .given .1) (omega (arith, c .before .before .before .before .before .before .before .pairs .inv .1)))
+
+enum-told : tie.Need-enum-told Inv-loop μ-loop Inv-pairs μ-pairs
+enum-told c = search needs
+
+returns-3 : tie.Need-returns-3 Inv-loop μ-loop Inv-pairs μ-pairs
+returns-3 c = law.filling-last _ (c .before .before .before .before .before .before .pairs .inv .2) (law.without-all (c .before .before .before .before .loop .inv .1) (c .before .before .before .before .loop .inv .0) (c .before .before .before .loop-test .left)) (c .before .before .entry-at .ensures) (c .enum-told .given .1)
+
+returns-4 : tie.Need-returns-4 Inv-loop μ-loop Inv-pairs μ-pairs
+returns-4 c = law.filling-found _ (c .before .before .before .before .before .pairs .inv .2) _ (c .before .before .loop-test .taken) (law.texts _ _ _ (c .if3 .taken) (c .before .same-text .ensures))
+
+pub block-twice-spec : {M : Type 1} → statement M
+block-twice-spec =
+    tie.close
+    (tie.spec
+    Inv-loop
+    μ-loop
+    Inv-pairs
+    μ-pairs
+    pairs-holds
+    block-meets-requires
+    returns
+    returns-2
+    loop-holds
+    add-same-text
+    mul-same-text
+    array-read-same-text
+    same-text-requires
+    add-i
+    loop-less
+    loop-again
+    entry-at-requires
+    add-names
+    mul-names
+    array-write-names
+    add-count
+    enum-known-next
+    pairs-less
+    pairs-again
+    enum-told
+    returns-3
+    returns-4)

@@ -1,0 +1,30 @@
+use native.Mathlib.Omega.{arith}
+use borrow.Author.Needs.{needs}
+use Rattle.json.proofs.steps.inside.Statement.{statement}
+use Rattle.json.proofs.steps.inside.Tie as tie
+use Rattle.json.proofs.steps.inside.Reads as reads
+use Rattle.json.proofs.steps.inside.Lts as lts
+use Rattle.json_reader.proofs.skip_ws.Reads as skip-ws-reads
+
+add-skip-ws : tie.Need-add-skip-ws
+add-skip-ws c = search needs
+
+skip-ws-requires : tie.Need-skip-ws-requires
+skip-ws-requires c κs = search needs
+
+shared-slice-read-if2 : tie.Need-shared-slice-read-if2
+shared-slice-read-if2 c = search needs
+
+returns : tie.Need-returns
+returns c = search needs
+
+returns-2 : tie.Need-returns-2
+returns-2 c = search needs
+
+returns-3 : tie.Need-returns-3
+returns-3 c = (_, c .before .skip-ws .ensures, λ h. absurd (omega (arith, c .if1 .left)))
+
+pub inside-spec : {M : Type 1} → statement M
+inside-spec =
+    tie.close
+    (tie.spec add-skip-ws skip-ws-requires shared-slice-read-if2 returns returns-2 returns-3)

@@ -1,0 +1,7 @@
+-- The JSON header: what it answers, its members by place, and the theorems on them.
+pub mod Members
+pub mod Twice
+pub mod Answers
+pub mod MemberLaws
+pub mod Demand3
+pub mod Rows

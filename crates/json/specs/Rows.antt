@@ -1,0 +1,44 @@
+-- The specification's starred rows on headers, as rows of one theorem.
+use mathlib.Core.Path.{_≡_, refl, sym, _∙_}
+use mathlib.Core.List.{List, [], _∷_}
+use Prim.Native.Nat.{ℕ}
+use Prim.Native.Char.{code}
+use Prim.Native.String.{String, [] as end, _∷_ as _and_}
+use lib.ListN.{length}
+use Rattle.json_grammar.specs.Bytes.{within, isWs, isDigit, isDigit19, isE, isSign, isHex, hexVal, allHex, hex4, isTail, code2, code3, code4, isHigh, isLow, isSurrogate, pairCode}
+use Rattle.json_grammar.specs.Value.{eqList, among, repeated, names, twice, plain}
+use Rattle.json_grammar.specs.Grammar.{Derivation, bytes, readingOf}
+use Rattle.json_grammar.specs.Places.{kindOf, pos, margin, placed, member}
+use Rattle.json_grammar.specs.Reader.{read, readValue, readChars, readChar, charLead, escapeLeadOf, isUnescaped1, pastNumber, word, valueLead, skip}
+use Rattle.json_grammar.specs.Unique.{one-reading}
+use Rattle.json_reader.specs.Contracts.{isText}
+use Rattle.json.specs.declared.places.Member.{Member}
+use Rattle.json.specs.declared.places.Member.the-variants.{Refused, Array}
+use Rattle.json.specs.declared.places.Member.the-variants.{String as Text}
+use Rattle.json.specs.Answers.{headerTests, checked, shownBy, place, answerFor, unlessRefused, memberOf}
+
+-- the bytes of a text of ASCII characters
+unfoldable pub ascii : String → List ℕ
+ascii end = []
+ascii (_and_ c s) = code c ∷ ascii s
+
+-- what member k of a header answers
+unfoldable pub answers : String → ℕ → Member
+unfolding read readValue readChars readChar charLead escapeLeadOf isUnescaped1 pastNumber word valueLead skip
+    within isWs isDigit isDigit19 isE isSign isHex hexVal allHex hex4 isTail code2 code3 code4 isHigh isLow isSurrogate pairCode
+    eqList among repeated names twice plain kindOf pos margin placed member isText headerTests checked shownBy answerFor unlessRefused memberOf ascii
+answers h k = memberOf (ascii h) k
+
+pub rows :
+    -- read, one member
+    (answers "{\"alg\":\"HS256\"}" 0 ≡ Text (place 2 5) (place 8 13)) × (answers "{\"alg\":\"HS256\"}" 1 ≡ Refused 16)
+    -- the same name after escapes are resolved
+    × ((k : ℕ) → answers "{\"alg\":\"HS256\",\"al\\u0067\":\"HS256\"}" k ≡ Refused 8)
+    -- a comma before the closing brace, a low surrogate alone
+    × ((k : ℕ) → answers "{\"alg\":\"HS256\",}" k ≡ Refused 7)
+    × ((k : ℕ) → answers "{\"alg\":\"HS256\",\"x\":\"\\uDD1E\"}" k ≡ Refused 7)
+    -- white space between brackets: read, and one reading
+    × (answers "{\"alg\":\"HS256\",\"x\":[ ]}" 1 ≡ Array (place 16 17) (place 19 22))
+    × ((t u : Derivation) → bytes t ≡ ascii "{\"alg\":\"HS256\",\"x\":[ ]}" → bytes u ≡ ascii "{\"alg\":\"HS256\",\"x\":[ ]}" → readingOf t ≡ readingOf u)
+unfolding answers
+rows = (refl, refl, λ k. refl, λ k. refl, λ k. refl, refl, λ t u p q. one-reading t u (p ∙ sym q))

@@ -1,0 +1,112 @@
+// What a header answers, and its members.
+use crate::names::twice_from;
+use crate::places::Kind;
+use crate::places::Member;
+use crate::places::Place;
+use crate::steps::Entry;
+use crate::steps::entry_at;
+use crate::steps::first_member;
+use json_reader::skip_ws;
+use json_reader::text;
+use json_string::End;
+ghost use mathlib.Core.Path.{_≡_};
+ghost use Prim.Native.Nat.{_<_};
+ghost use lib.ListN.{length};
+ghost use Rattle.json.specs.Members.{kindIn, TopMembers};
+ghost use Rattle.json.specs.Answers.{checked, shownBy, memberOf, Picks};
+
+// The greatest length of a header, and the greatest depth, in which the top object is 1.
+const LONGEST: usize = 1024;
+
+const DEEPEST: usize = 8;
+
+// What a header answers: 0 if it is read; 5 if it is too long; 7 if it isn't derived by the grammar, or nests too deep; 8 if one object has a name twice.
+// Rules out 8 for a text that breaks off after two equal names, and 0 for two names that are equal after their escapes are resolved.
+pub fn check(header: &[u8]) -> u8
+    ensures { λ r. ⌜ r ≡ checked (now (header .entry)) ⌝ }
+{
+    if LONGEST < header.len() {
+        return 5;
+    }
+    if text(header, DEEPEST) {
+        if twice_from(header, 0, DEEPEST) {
+            return 8;
+        }
+        return 0;
+    }
+    7
+}
+
+// Where the first member of the top object begins, if it has one.
+// Rules out the place of the brace, and a member of `{}`.
+pub fn top_members(header: &[u8]) -> End
+    ensures { λ r. ⌜ TopMembers (now (header .entry)) r ⌝ }
+{
+    let at = skip_ws(header, 0);
+    if at < header.len() {
+        return first_member(header, at);
+    }
+    End::Bad
+}
+
+// A member by the kind of its value.
+fn shown(kind: Kind, name: Place, value: Place) -> Member
+    ensures { λ r. ⌜ r ≡ shownBy (kindIn kind) name value ⌝ }
+{
+    match kind {
+        Kind::String => Member::String(name, value),
+        Kind::Number => Member::Number(name, value),
+        Kind::True => Member::True(name, value),
+        Kind::False => Member::False(name, value),
+        Kind::Null => Member::Null(name, value),
+        Kind::Array => Member::Array(name, value),
+        Kind::Object => Member::Object(name, value),
+    }
+}
+
+// Member k of those from `from` on.
+fn nth_member(s: &[u8], from: usize, depth: usize, k: usize) -> Member
+    requires { ⌜ from < length (now s) ⌝ }
+    ensures { λ r. ⌜ Picks (now (s .entry)) from depth k r ⌝ }
+{
+    let mut p = from;
+    let mut left = k;
+    loop {
+        let m = entry_at(s, p, depth);
+        if left == 0 {
+            let kind = m.kind;
+            let name = m.name;
+            let value = m.value;
+            return shown(kind, name, value);
+        }
+        let next = m.next;
+        match next {
+            End::At(q) => {
+                p = q;
+                left -= 1;
+            }
+            End::Bad => {
+                return Member::Refused(16);
+            }
+        }
+    }
+}
+
+// Member k of the top object, from 0; 16 past the last; 5, 7 or 8 if the header isn't read.
+// Rules out a member of a header that isn't read, and the same member for another k.
+pub fn member(header: &[u8], k: usize) -> Member
+    ensures { λ r. ⌜ r ≡ memberOf (now (header .entry)) k ⌝ }
+{
+    let n = check(header);
+    if n == 0 {
+        match top_members(header) {
+            End::At(p) => {
+                return nth_member(header, p, DEEPEST - 1, k);
+            }
+            End::Bad => {
+                return Member::Refused(16);
+            }
+        }
+    }
+    Member::Refused(n)
+}

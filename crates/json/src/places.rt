@@ -1,0 +1,74 @@
+// Kinds and places of values, and the member reader's answer.
+ghost use mathlib.Core.Path.{_≡_};
+ghost use Prim.Native.Nat.{_<_};
+ghost use Rattle.json_grammar.specs.Reader.{valueLead};
+ghost use Rattle.json_reader.specs.Contracts.{kindBy};
+ghost use Rattle.json.specs.Members.{kindIn, PlaceIs};
+
+// A part of a text: start is the place of its first byte, end the place after its last.
+pub struct Place {
+    pub start: usize,
+    pub end: usize,
+}
+
+// The seven kinds of value.
+pub enum Kind {
+    String,
+    Number,
+    True,
+    False,
+    Null,
+    Array,
+    Object,
+}
+
+// A member of the top object, by the kind of its value: the place of its name and the place of its value. Or the refusal's number.
+pub enum Member {
+    String(Place, Place),
+    Number(Place, Place),
+    True(Place, Place),
+    False(Place, Place),
+    Null(Place, Place),
+    Array(Place, Place),
+    Object(Place, Place),
+    Refused(u8),
+}
+
+// The kind of a value that begins with the byte b.
+pub fn kind_by(b: u8) -> Kind
+    ensures { λ r. ⌜ kindIn r ≡ kindBy (valueLead b) ⌝ }
+{
+    if b == 0x22 {
+        return Kind::String;
+    }
+    if b == 0x5B {
+        return Kind::Array;
+    }
+    if b == 0x7B {
+        return Kind::Object;
+    }
+    if b == 0x74 {
+        return Kind::True;
+    }
+    if b == 0x66 {
+        return Kind::False;
+    }
+    if b == 0x6E {
+        return Kind::Null;
+    }
+    Kind::Number
+}
+
+// The place of a value that begins with the byte b and stands from f to e: a string is taken between its quotation marks.
+pub fn place_by(b: u8, f: usize, e: usize) -> Place
+    requires { ⌜ f < e ⌝ }
+    ensures { λ r. ⌜ PlaceIs b f e r ⌝ }
+{
+    if b == 0x22 {
+        return Place {
+            start: f + 1,
+            end: e - 1,
+        };
+    }
+    Place { start: f, end: e }
+}
