@@ -1,6 +1,6 @@
 -- What a test says of the condition that it decides.
 use mathlib.Core.Path.{_≡_, refl}
-use mathlib.Core.Bool.{Bool, true, false, _&&_}
+use mathlib.Core.Bool.{Bool, true, false, not, _&&_}
 use Prim.Native.Nat.{ℕ}
 use native.Mathlib.Omega.{arith}
 use Rattle.common.specs.First.{Decides, holds, fails, decides-iff, decides-and}
@@ -29,3 +29,12 @@ decided (holds p) (holds q) = refl
 decided (holds p) (fails q) = absurd (q p)
 decided (fails p) (holds q) = absurd (p q)
 decided (fails p) (fails q) = refl
+
+-- the test of a condition that fails is false
+pub test-false : {P : Type 0} {b : Bool} → Decides P b → (P → ⊥) → b ≡ false
+test-false (holds p) n = absurd (n p)
+test-false (fails p) n = refl
+
+pub decides-false : (b : Bool) → Decides (b ≡ false) (not b)
+decides-false true = fails (λ e. let z : _≡_ {A = ℕ} 0 1 = cc in omega arith)
+decides-false false = holds refl

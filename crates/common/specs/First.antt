@@ -195,6 +195,20 @@ pub stable : {P : Type 0} {b : Bool} → Decides P b → ((P → ⊥) → ⊥) �
 stable (holds d) h = d
 stable (fails d) h = absurd (h d)
 
+-- where none holds, the condition under n doesn't
+pub not-on : (rs : List Rule) → NoneOf rs → (n : ℕ) → condition rs n → ⊥
+not-on [] h n c = c
+not-on ((m on P) ∷ rs) h n c = go (eqb m n) (h .0) (not-on rs (h .1) n) c
+  where
+    go : (q : Bool) → (P → ⊥) → (condition rs n → ⊥) → cond q P (condition rs n) → ⊥
+    go true now later c = now c
+    go false now later c = later c
+
+-- none of one, and none of the others
+infixr 30 _also_
+pub _also_ : {P Q : Type 0} → P → Q → P × Q
+p also q = (p, q)
+
 pub none-append : (qs rs : List Rule) → NoneOf qs → NoneOf rs → NoneOf (qs ++ rs)
 none-append [] rs a b = b
 none-append ((n on P) ∷ qs) rs a b = (a .0, none-append qs rs (a .1) b)

@@ -1,0 +1,117 @@
+-- What a decision says: the number is that of the first rule that refuses; where none does, the choice is the header's, and its key is one of the keys.
+use mathlib.Core.Path.{_≡_, refl, sym, ap, _∙_}
+use mathlib.Core.Bool.{Bool, true, false, cond, not, _&&_}
+use mathlib.Core.List.{List, [], _∷_}
+use mathlib.Core.Option.{Option, none, some}
+use Prim.Native.Nat.{ℕ, zero, suc, _<_}
+use native.Mathlib.Omega.{arith}
+use lib.Dec.{eqb}
+use lib.ListN.{length}
+use borrow.Author.Tests.{eq-eqb}
+use Rattle.common.specs.First.{Test, _when_, first}
+use Rattle.json_grammar.specs.Value.{Value, Members}
+use Rattle.json_string.specs.Utf8.{utf8}
+use Rattle.keytable.specs.declared.Found.{Found}
+use Rattle.keytable.specs.declared.Found.the-variants.{At, Nothing}
+use Rattle.keytable.specs.Key.{Key, find, only}
+use Rattle.keytable.specs.KeyLaws.{found, only-found}
+use Rattle.keytable.specs.Table.{badTable, keys}
+use Rattle.jose_rules.specs.declared.Choice.{Choice}
+use Rattle.jose_rules.specs.declared.Decision.{Decision}
+use Rattle.jose_rules.specs.declared.Decision.the-variants.{Refused, Chosen}
+use Rattle.jose_rules.specs.Names.{kid}
+use Rattle.jose_rules.specs.Members.{string}
+use Rattle.jose_rules.specs.Only.{absent, bind, orElse}
+use Rattle.jose_rules.specs.Header.{HeaderChoice}
+use Rattle.jose_rules.specs.HeaderTests.{reading, headerChoice}
+use Rattle.jose_rules.specs.Tests.{lookup, indexOf, chosen, choice}
+use Rattle.jose_rules.specs.Decision.{choiceOf, decided, decisionTests, decisionWith, decision}
+
+clash : {P : Type 0} → true ≡ false → P
+clash e = let z : _≡_ {A = ℕ} 0 1 = cc in absurd (omega arith)
+
+-- A NUMBER AND A CHOICE, apart again
+
+pub refused-is : (k : ℕ) (c : HeaderChoice) {n : ℕ} → Refused n ≡ decided k c → (n ≡ k) × (n ≡ 0 → ⊥)
+refused-is zero c e = absurd (let z : _≡_ {A = ℕ} 0 1 = cc in omega arith)
+refused-is (suc k) c {n} e = let f : n ≡ suc k = cc in (f, λ z. omega arith)
+
+pub chosen-is : (k : ℕ) (c : HeaderChoice) {d : Choice} → Chosen d ≡ decided k c → (k ≡ 0) × (d ≡ choiceOf c)
+chosen-is zero c e = (refl, cc)
+chosen-is (suc k) c e = absurd (let z : _≡_ {A = ℕ} 0 1 = cc in omega arith)
+
+-- THE TESTS THAT DON'T REFUSE
+
+-- no test has the number 0
+abbrev pub numbered : List Test → Bool
+numbered [] = true
+numbered ((n when b) ∷ ts) = not (eqb n 0) && numbered ts
+
+-- every test is false
+abbrev pub Pass : List Test → Type 0
+Pass [] = Unit {0}
+Pass ((n when b) ∷ ts) = (b ≡ false) × Pass ts
+
+pub all-pass : (ts : List Test) → numbered ts ≡ true → first ts ≡ 0 → Pass ts
+all-pass [] u e = tt
+all-pass ((n when true) ∷ ts) u e = clash (sym u ∙ ap (λ (b : Bool). not b && numbered ts) (eq-eqb n 0 e))
+all-pass ((n when false) ∷ ts) u e = (refl, all-pass ts (right (not (eqb n 0)) u) e)
+  where
+    right : (a : Bool) → a && numbered ts ≡ true → numbered ts ≡ true
+    right true u = u
+    right false u = clash (sym u)
+
+-- THE KEY
+
+-- the chosen key is one of the keys
+pub chosen-within : (ms : Members) (ks : List Key) {i : ℕ} → some i ≡ chosen ms ks → i < length ks
+unfolding chosen
+chosen-within ms ks {i} e = go (lookup kid ms) e
+  where
+    at : (f : Found) → some i ≡ indexOf f → f ≡ At i
+    at (At j) e = cc
+    at Nothing e = absurd (let z : _≡_ {A = ℕ} 0 1 = cc in omega arith)
+
+    named : (o : Option (List ℕ)) → some i ≡ bind o (λ s. indexOf (find (utf8 s) ks)) → i < length ks
+    named none e = absurd (let z : _≡_ {A = ℕ} 0 1 = cc in omega arith)
+    named (some s) e = found (at (find (utf8 s) ks) e) .within
+
+    go : (o : Option Value) → some i ≡ cond (absent o) (indexOf (only ks)) (bind (bind o string) (λ s. indexOf (find (utf8 s) ks))) → i < length ks
+    go none e = let o = only-found ks (at (only ks) e) in omega arith
+    go (some v) e = named (string v) e
+
+module _ (h : List ℕ) (ks : List Key) where
+  pub choice-within : first (decisionTests h ks) ≡ 0 → headerChoice h ks .choice .index < length ks
+  unfolding headerChoice choice
+  choice-within e = go (chosen (reading h) ks) refl (all-pass (decisionTests h ks) refl e .1 .1 .1 .1 .1 .1 .0)
+    where
+      go : (o : Option ℕ) → chosen (reading h) ks ≡ o → absent o ≡ false → orElse (chosen (reading h) ks) 0 < length ks
+      go none e f = clash f
+      go (some i) e f = rw e (chosen-within (reading h) ks (sym e))
+
+  -- for callers of `decide_with`
+  pub with-refused : {n : ℕ} → Refused n ≡ decisionWith h ks → (n ≡ first (decisionTests h ks)) × (n ≡ 0 → ⊥)
+  unfolding decisionWith
+  with-refused e = refused-is (first (decisionTests h ks)) (headerChoice h ks) e
+
+  pub with-chosen : {d : Choice} → Chosen d ≡ decisionWith h ks → (first (decisionTests h ks) ≡ 0) × (d ≡ choiceOf (headerChoice h ks)) × (d .index < length ks)
+  unfolding decisionWith
+  with-chosen {d} e =
+      let c = chosen-is (first (decisionTests h ks)) (headerChoice h ks) e in
+      (c .0, c .1, rw (c .1) (choice-within (c .0)))
+
+-- for callers of `decide`
+module _ (h T : List ℕ) where
+  pub refused : {n : ℕ} → Refused n ≡ decision h T → (n ≡ first (2 when badTable T ∷ decisionTests h (keys T))) × (n ≡ 0 → ⊥)
+  unfolding decision
+  refused e = refused-is (first (2 when badTable T ∷ decisionTests h (keys T))) (headerChoice h (keys T)) e
+
+  pub chosen-by : {d : Choice} → Chosen d ≡ decision h T
+      → (badTable T ≡ false) × (first (decisionTests h (keys T)) ≡ 0) × (d ≡ choiceOf (headerChoice h (keys T))) × (d .index < length (keys T))
+  unfolding decision
+  chosen-by {d} e = go (badTable T) refl (chosen-is (first (2 when badTable T ∷ decisionTests h (keys T))) (headerChoice h (keys T)) e)
+    where
+      go : (b : Bool) → badTable T ≡ b → (first (2 when b ∷ decisionTests h (keys T)) ≡ 0) × (d ≡ choiceOf (headerChoice h (keys T)))
+          → (badTable T ≡ false) × (first (decisionTests h (keys T)) ≡ 0) × (d ≡ choiceOf (headerChoice h (keys T))) × (d .index < length (keys T))
+      go true b c = absurd (let z = c .0 in omega arith)
+      go false b c = (b, c .0, c .1, rw (c .1) (choice-within h (keys T) (c .0)))

@@ -1,0 +1,104 @@
+-- The definitions, run on readings: each answer from 9 to 14, and what is chosen where none is given.
+use mathlib.Core.Path.{_≡_, refl}
+use mathlib.Core.Bool.{Bool, true, false}
+use mathlib.Core.List.{List, [], _∷_}
+use Prim.Native.Nat.{ℕ}
+use Prim.Native.String.{String}
+use Rattle.common.specs.First.{first}
+use Rattle.json_grammar.specs.Value.{Value, Values, Members, stringV, numberV, trueV, arrayV, vnil, vcons, mnil, mcons, eqList, among, repeated}
+use Rattle.json_string.specs.Utf8.{utf8, octets}
+use Rattle.decimal.specs.Integer.{integerOf, allDigits, after}
+use Rattle.common.specs.Same.{same}
+use Rattle.keytable.specs.Key.{Key, find, only, allowsHS256, allowsFormat}
+use Rattle.jose_rules.specs.Names.{ascii, alg, kid, typ, cty, crit, fmt, HS256}
+use Rattle.jose_rules.specs.Members.{stringsIn}
+use Rattle.jose_rules.specs.Tests.{lookup, missingOrWrong, anyOf, listed, criticalBroken, chosen, format, lacking, knownTests, choice}
+
+-- "name": value, before the members ms
+abbrev pub _∶_then_ : String → Value → Members → Members
+n ∶ v then ms = mcons (ascii n) v ms
+
+infixr 60 _∶_then_
+abbrev pub text : String → Value
+text s = stringV (ascii s)
+
+abbrev pub number : String → Value
+number s = numberV (ascii s)
+
+abbrev pub texts : List String → Values
+texts [] = vnil
+texts (s ∷ ss) = vcons (text s) (texts ss)
+
+abbrev pub array : List String → Value
+array ss = arrayV (texts ss)
+
+-- a key that allows HS256 and format 1; one that allows HS256 and formats 2 and 8; one that allows format 1 alone
+abbrev pub hs1 : Key
+hs1 = record { id = ascii "cellar 1"; secret = []; algorithms = 1; formats = 0x01 }
+
+abbrev pub hs28 : Key
+hs28 = record { id = ascii "cellar 2"; secret = []; algorithms = 1; formats = 0x82 }
+
+abbrev pub none1 : Key
+none1 = record { id = ascii "cellar 3"; secret = []; algorithms = 0; formats = 0x01 }
+
+abbrev pub Answers : Members → List Key → ℕ → Type 0
+Answers ms ks n = first (knownTests ms ks) ≡ n
+
+abbrev pub Gives : Members → List Key → ℕ → Bool → ℕ → Type 0
+Gives ms ks i named f = Answers ms ks 0 × (choice ms ks ≡ record { index = i; named = named; format = f })
+
+pub examples :
+    Gives ("alg" ∶ text "HS256" then mnil) (hs1 ∷ []) 0 false 1
+    × Gives ("kid" ∶ text "cellar 2" then "crit" ∶ array ("fmt" ∷ []) then "fmt" ∶ number "8" then "alg" ∶ text "HS256" then mnil) (hs1 ∷ hs28 ∷ []) 1 true 8
+    -- `jku` chooses nothing
+    × Gives ("jku" ∶ text "cellar 2" then "alg" ∶ text "HS256" then mnil) (hs1 ∷ []) 0 false 1
+    -- a known member is missing or has the wrong kind
+    × Answers mnil (hs1 ∷ []) 9
+    × Answers ("alg" ∶ trueV then mnil) (hs1 ∷ []) 9
+    × Answers ("alg" ∶ text "HS256" then "kid" ∶ number "1" then mnil) (hs1 ∷ []) 9
+    × Answers ("alg" ∶ text "HS256" then "crit" ∶ arrayV (vcons (text "fmt") (vcons trueV vnil)) then mnil) (hs1 ∷ []) 9
+    × Answers ("alg" ∶ text "HS256" then "crit" ∶ array ("fmt" ∷ []) then "fmt" ∶ number "1e0" then mnil) (hs1 ∷ []) 9
+    × Answers ("alg" ∶ text "HS256" then "crit" ∶ array ("fmt" ∷ []) then "fmt" ∶ number "9223372036854775808" then mnil) (hs1 ∷ []) 9
+    -- critical rule broken
+    × Answers ("alg" ∶ text "HS256" then "fmt" ∶ number "2" then mnil) (hs1 ∷ []) 10
+    × Answers ("alg" ∶ text "HS256" then "crit" ∶ array [] then mnil) (hs1 ∷ []) 10
+    × Answers ("alg" ∶ text "HS256" then "crit" ∶ array ("fmt" ∷ []) then mnil) (hs1 ∷ []) 10
+    × Answers ("alg" ∶ text "HS256" then "crit" ∶ array ("fmt" ∷ "fmt" ∷ []) then "fmt" ∶ number "1" then mnil) (hs1 ∷ []) 10
+    × Answers ("alg" ∶ text "HS256" then "crit" ∶ array ("jku" ∷ []) then "jku" ∶ trueV then mnil) (hs1 ∷ []) 10
+    -- alg isn't `HS256`
+    × Answers ("alg" ∶ text "HS512" then mnil) (hs1 ∷ []) 11
+    -- no key found
+    × Answers ("alg" ∶ text "HS256" then mnil) (hs1 ∷ hs28 ∷ []) 12
+    × Answers ("alg" ∶ text "HS256" then "kid" ∶ text "cellar" then mnil) (hs1 ∷ []) 12
+    -- the key's HS256 bit is 0
+    × Answers ("alg" ∶ text "HS256" then mnil) (none1 ∷ []) 13
+    -- the key's formats lack this format
+    × Answers ("alg" ∶ text "HS256" then mnil) (hs28 ∷ []) 14
+    × Answers ("alg" ∶ text "HS256" then "crit" ∶ array ("fmt" ∷ []) then "fmt" ∶ number "-0" then mnil) (hs1 ∷ []) 14
+    × Answers ("alg" ∶ text "HS256" then "crit" ∶ array ("fmt" ∷ []) then "fmt" ∶ number "9" then mnil) (hs1 ∷ []) 14
+unfolding ascii alg kid typ cty crit fmt HS256 eqList among repeated utf8 octets integerOf allDigits after same find only allowsHS256 allowsFormat
+    stringsIn lookup missingOrWrong anyOf listed criticalBroken chosen format lacking choice
+examples = (
+  (refl, refl),
+  (refl, refl),
+  (refl, refl),
+  refl,
+  refl,
+  refl,
+  refl,
+  refl,
+  refl,
+  refl,
+  refl,
+  refl,
+  refl,
+  refl,
+  refl,
+  refl,
+  refl,
+  refl,
+  refl,
+  refl,
+  refl,
+)

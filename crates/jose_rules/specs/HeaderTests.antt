@@ -1,0 +1,36 @@
+-- The tests of answers 7 to 14, and what a header decides, computed by the reader.
+use mathlib.Core.Bool.{cond, not}
+use mathlib.Core.List.{List, [], _∷_, _++_}
+use Prim.Native.Nat.{ℕ}
+use Rattle.common.specs.First.{Test, _when_}
+use Rattle.json_grammar.specs.Value.{Members, eqList, LMembers, lnil, lcons, plainMembers}
+use Rattle.json_grammar.specs.Places.{placed}
+use Rattle.json_grammar.specs.Reader.{read}
+use Rattle.json_grammar.specs.Unique.{isGot}
+use Rattle.json.specs.Answers.{deepest, membersIn, twiceIn}
+use Rattle.keytable.specs.Key.{Key}
+use Rattle.jose_rules.specs.declared.Place.{Place}
+use Rattle.jose_rules.specs.Names.{typ, cty}
+use Rattle.jose_rules.specs.Tests.{knownTests, choice}
+use Rattle.jose_rules.specs.Header.{nameOf, valuePlace, nowhere, HeaderChoice}
+
+-- the members that are read in h, and their reading
+abbrev pub located : List ℕ → LMembers
+located h = membersIn (read deepest h)
+
+abbrev pub reading : List ℕ → Members
+reading h = plainMembers (located h)
+
+abbrev pub grammarTests : List ℕ → List Test
+grammarTests h = 7 when not (isGot (read deepest h)) ∷ 8 when twiceIn (located h) ∷ []
+
+abbrev pub headingTests : List ℕ → List Key → List Test
+headingTests h ks = grammarTests h ++ knownTests (reading h) ks
+
+-- the place of the value of the first member with the name n
+unfoldable pub rawText : List ℕ → List ℕ → LMembers → Place
+rawText h n lnil = nowhere
+rawText h n (lcons m ms) = cond (eqList (nameOf m) n) (valuePlace (placed h m)) (rawText h n ms)
+
+unfoldable pub headerChoice : List ℕ → List Key → HeaderChoice
+headerChoice h ks = record { choice = choice (reading h) ks; typ = rawText h typ (located h); cty = rawText h cty (located h) }

@@ -1,0 +1,69 @@
+-- An object's members by name, and what their values say. "Names are equal when their code points are."
+use mathlib.Core.Path.{_≡_}
+use mathlib.Core.Logic.{_⊎_}
+use mathlib.Core.List.{List, [], _∷_}
+use mathlib.Core.Option.{Option, none, some}
+use Prim.Native.Nat.{ℕ}
+use lib.IntN.{ℤ}
+use Rattle.json_grammar.specs.Value.{Value, Values, Members, stringV, numberV, trueV, falseV, nullV, arrayV, objectV, vnil, vcons, mnil, mcons}
+use Rattle.decimal.specs.Integer.{integerOf}
+use Rattle.decimal.specs.declared.Integer.{Integer}
+use Rattle.decimal.specs.declared.Integer.the-variants.{Is, No}
+use Rattle.jose_rules.specs.Only.{bind}
+
+-- a member with the name n has the value v
+abbrev pub Has : List ℕ → Value → Members → Type 0
+Has n v mnil = ⊥
+Has n v (mcons m w ms) = ((m ≡ n) × (w ≡ v)) ⊎ Has n v ms
+
+-- no member has the name n
+abbrev pub Lacks : List ℕ → Members → Type 0
+Lacks n ms = (v : Value) → Has n v ms → ⊥
+
+-- A kind: what a value of it says; none for any other value.
+abbrev pub Kind : Type 0 → Type 0
+Kind A = Value → Option A
+
+-- of a string, a number, an array, and any other value
+abbrev pub byKind : {B : Type 0} → (List ℕ → B) → (List ℕ → B) → (Values → B) → B → Value → B
+byKind string number array other (stringV s) = string s
+byKind string number array other (numberV cs) = number cs
+byKind string number array other (arrayV vs) = array vs
+byKind string number array other trueV = other
+byKind string number array other falseV = other
+byKind string number array other nullV = other
+byKind string number array other (objectV ms) = other
+
+-- a string says its code points
+abbrev pub string : Kind (List ℕ)
+string v = byKind some (λ cs. none) (λ vs. none) none v
+
+-- "an array of strings only" says them in order
+unfoldable pub stringsIn : Values → Option (List (List ℕ))
+stringsIn vnil = some []
+stringsIn (vcons v vs) = bind (string v) (λ s. bind (stringsIn vs) (λ ns. some (s ∷ ns)))
+
+abbrev pub strings : Kind (List (List ℕ))
+strings v = byKind (λ s. none) (λ cs. none) stringsIn none v
+
+-- "a number without fraction or exponent from -9,223,372,036,854,775,808 to 9,223,372,036,854,775,807" says its value
+abbrev pub valueOf : Integer → Option ℤ
+valueOf (Is z) = some z
+valueOf No = none
+
+abbrev pub integer : Kind ℤ
+integer v = byKind (λ s. none) (λ cs. valueOf (integerOf cs)) (λ vs. none) none v
+
+module _ {A : Type 0} (k : Kind A) (n : List ℕ) (ms : Members) where
+  -- the member n is there, is of the kind k, and says a
+  abbrev pub Says : A → Type 0
+  Says a = (v : Value) × Has n v ms × (k v ≡ some a)
+
+  -- the member n is there, and isn't of the kind k
+  abbrev pub Wrong : Type 0
+  Wrong = (v : Value) × Has n v ms × (k v ≡ none)
+
+-- some name of a list is such that P
+abbrev pub Some : (List ℕ → Type 0) → List (List ℕ) → Type 0
+Some P [] = ⊥
+Some P (n ∷ ns) = P n ⊎ Some P ns

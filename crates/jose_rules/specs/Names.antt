@@ -1,0 +1,33 @@
+-- The known members' names (RFC 7515 section 4.1; `fmt` is the house's) and the one algorithm's, as code points.
+use mathlib.Core.List.{List, [], _∷_}
+use Prim.Native.Nat.{ℕ}
+use Prim.Native.Char.{code}
+use Prim.Native.String.{String, [] as end, _∷_ as _and_}
+
+unfoldable pub ascii : String → List ℕ
+ascii end = []
+ascii (_and_ c s) = code c ∷ ascii s
+
+unfoldable pub alg : List ℕ
+alg = ascii "alg"
+
+unfoldable pub kid : List ℕ
+kid = ascii "kid"
+
+unfoldable pub typ : List ℕ
+typ = ascii "typ"
+
+unfoldable pub cty : List ℕ
+cty = ascii "cty"
+
+unfoldable pub crit : List ℕ
+crit = ascii "crit"
+
+unfoldable pub fmt : List ℕ
+fmt = ascii "fmt"
+
+abbrev pub knownNames : List (List ℕ)
+knownNames = alg ∷ kid ∷ typ ∷ cty ∷ crit ∷ fmt ∷ []
+
+unfoldable pub HS256 : List ℕ
+HS256 = ascii "HS256"

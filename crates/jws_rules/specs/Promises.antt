@@ -1,0 +1,188 @@
+-- The promises of verifying, signing and the payload call, for all inputs. The contracts say that the functions give exactly `verified`, `signed` and `payload`.
+-- t: a token; T: a table; h: a header; p: a payload; hr, pr, room: the lengths of the buffers lent for the header, the payload and the token.
+use mathlib.Core.Path.{_≡_, refl, sym, ap, _∙_}
+use mathlib.Core.Logic.{_⊎_, _↔_}
+use mathlib.Core.Bool.{true}
+use mathlib.Core.List.{List, [], _∷_}
+use Prim.Native.Nat.{ℕ, _-_, _≤_}
+use native.Mathlib.Omega.{arith}
+use lib.ListN.{length, replicate, length-append}
+use lib.Seq.{take-append-seam}
+use borrow.Author.Tests.{le-leb}
+use Rattle.common.specs.Bytes.{Bytes}
+use Rattle.common.specs.Buffer.{filled}
+use Rattle.common.specs.First.{NoneOf, condition, earlier, numbers, among, first-stands, none-stands, in-range, not-on, _also_}
+use Rattle.json.specs.Answers.{longest, memberOf, numberOf}
+use Rattle.json.specs.Demand3.{member-first, read-exactly}
+use Rattle.keytable.specs.Key.{Key}
+use Rattle.keytable.specs.Table.{Wellformed, keys}
+use Rattle.jose_rules.specs.Header.{HeaderChoice, HeaderChooses}
+use Rattle.jose_rules.specs.HeaderTests.{headerChoice}
+use Rattle.jws_rules.specs.declared.Record.{Record}
+use Rattle.jws_rules.specs.Token.{headerOf, payloadOf}
+use Rattle.jws_rules.specs.Outcomes.{VerifyOutcome, SignOutcome, recordOf, zeroRecord, accepted, payload, signedAs, headerIn, payloadIn, tokenIn}
+use Rattle.jws_rules.specs.Rules.{verifying, signing, Accepted}
+use Rattle.jws_rules.specs.Tests.{choiceOf, verified, verifyAnswer, made, signed, signAnswer}
+use Rattle.jws_rules.specs.RuleLaws.{verify-agree, verify-number, verify-is, verify-bad, sign-agree, sign-number, sign-good, sign-is, sign-bad}
+use Rattle.jws_rules.specs.AcceptedLaws.{accepted-if, accepted-only, sign-header, signed-accepted, accepted-signed}
+
+-- DEMAND 1
+
+-- `verified` answers one of 0 to 15, ..
+pub verify-answers : (t T : List ℕ) (hr pr : ℕ)
+    → among (verifyAnswer t T hr pr) (0 ∷ 1 ∷ 2 ∷ 3 ∷ 4 ∷ 5 ∷ 6 ∷ 7 ∷ 8 ∷ 9 ∷ 10 ∷ 11 ∷ 12 ∷ 13 ∷ 14 ∷ 15 ∷ []) ≡ true
+verify-answers t T hr pr = rw verify-number (in-range (verify-agree t T hr pr))
+
+-- .. `signed` one of 0, 1, 2, 5 to 14.
+pub sign-answers : (h p T : List ℕ) (room : ℕ)
+    → among (signAnswer h p T room) (0 ∷ 2 ∷ 5 ∷ 7 ∷ 8 ∷ 9 ∷ 10 ∷ 11 ∷ 12 ∷ 13 ∷ 14 ∷ 1 ∷ 6 ∷ []) ≡ true
+sign-answers h p T room = rw sign-number (in-range (sign-agree h p T room))
+
+-- Where the answer isn't 0: the record is all zeros, and each lent buffer is zeros end to end; ..
+pub verify-zeros : (t T : List ℕ) (hr pr : ℕ) → (verifyAnswer t T hr pr ≡ 0 → ⊥)
+    → (verified t T hr pr .gives .about ≡ zeroRecord) × (verified t T hr pr .header ≡ replicate hr 0) × (verified t T hr pr .payload ≡ replicate pr 0)
+verify-zeros t T hr pr n =
+    let e = verify-bad t T hr pr n in
+    (ap (λ (v : VerifyOutcome). v .gives .about) e, ap (λ (v : VerifyOutcome). v .header) e, ap (λ (v : VerifyOutcome). v .payload) e)
+
+pub sign-zeros : (h p T : List ℕ) (room : ℕ) → (signAnswer h p T room ≡ 0 → ⊥)
+    → (signed h p T room .gives .length ≡ 0) × (signed h p T room .token ≡ replicate room 0)
+sign-zeros h p T room n =
+    let e = sign-bad h p T room n in
+    (ap (λ (s : SignOutcome). s .gives .length) e, ap (λ (s : SignOutcome). s .token) e)
+
+-- .. and the payload that is handed back is empty, whichever buffer is given.
+pub payload-refused : (t T : List ℕ) (hr pr : ℕ) → (verifyAnswer t T hr pr ≡ 0 → ⊥) → (b : List ℕ) → payload (verified t T hr pr .gives .about) b ≡ []
+unfolding payload
+payload-refused t T hr pr n b = rw (verify-zeros t T hr pr n .0, le-leb 0 (length b) (omega arith))
+
+-- On 0 the header buffer is the header and then zeros, the payload buffer the payload and then zeros, ..
+pub verify-fills : (t T : List ℕ) (hr pr : ℕ) → verifyAnswer t T hr pr ≡ 0
+    → (verified t T hr pr .header ≡ filled hr (headerOf t)) × (verified t T hr pr .payload ≡ filled pr (payloadOf t))
+verify-fills t T hr pr e =
+    let f = verify-is t T hr pr e in
+    (ap (λ (v : VerifyOutcome). v .header) f, ap (λ (v : VerifyOutcome). v .payload) f)
+
+-- .. the token buffer the token and then zeros.
+pub sign-fills : (h p T : List ℕ) (room : ℕ) → signAnswer h p T room ≡ 0 → signed h p T room .token ≡ filled room (made h p T)
+sign-fills h p T room e = ap (λ (s : SignOutcome). s .token) (sign-is h p T room e)
+
+-- DEMAND 2
+
+-- FIRST REFUSAL: the answer is n exactly when the condition of n holds and no earlier one does; 0 exactly when none holds.
+pub verify-first : (t T : List ℕ) (hr pr n : ℕ) → among n (numbers (verifying t T hr pr)) ≡ true
+    → (verifyAnswer t T hr pr ≡ n) ↔ (condition (verifying t T hr pr) n × NoneOf (earlier (verifying t T hr pr) n))
+verify-first t T hr pr n e = rw verify-number (first-stands (verify-agree t T hr pr) refl n e)
+
+pub verify-none : (t T : List ℕ) (hr pr : ℕ) → (verifyAnswer t T hr pr ≡ 0) ↔ NoneOf (verifying t T hr pr)
+verify-none t T hr pr = rw verify-number (none-stands (verify-agree t T hr pr) refl)
+
+pub sign-first : (h p T : List ℕ) (room n : ℕ) → among n (numbers (signing h p T room)) ≡ true
+    → (signAnswer h p T room ≡ n) ↔ (condition (signing h p T room) n × NoneOf (earlier (signing h p T room) n))
+sign-first h p T room n e = rw sign-number (first-stands (sign-agree h p T room) refl n e)
+
+pub sign-none : (h p T : List ℕ) (room : ℕ) → (signAnswer h p T room ≡ 0) ↔ NoneOf (signing h p T room)
+sign-none h p T room = rw sign-number (none-stands (sign-agree h p T room) refl)
+
+-- ACCEPTED EXACTLY WHEN a header, a payload and a record make the token, by a statement with no decoder and no parser; ..
+pub accepted-exactly : (t T : List ℕ) (hr pr : ℕ)
+    → (verifyAnswer t T hr pr ≡ 0) ↔ ((h : List ℕ) × (p : List ℕ) × (r : Record) × Accepted t T hr pr h p r)
+accepted-exactly t T hr pr = (
+  (λ e. (headerOf t, payloadOf t, recordOf (headerOf t) (payloadOf t) (choiceOf t T), accepted-only t T hr pr e)),
+  (λ a. ap (λ (v : VerifyOutcome). v .gives .answer) (accepted-if t T hr pr (a .0) (a .1) (a .2) (a .3))),
+)
+
+-- .. and then the record and the buffers are exactly theirs.
+pub accepted-gives : (t T : List ℕ) (hr pr : ℕ) (h p : List ℕ) (r : Record) → Accepted t T hr pr h p r → verified t T hr pr ≡ accepted h p r hr pr
+accepted-gives = accepted-if
+
+-- THE PAYLOAD CALL, given the record and the payload buffer, hands the payload back.
+pub payload-back : (p : List ℕ) (pr : ℕ) (r : Record) → r .payload ≡ length p → payload r (filled pr p) ≡ p
+unfolding payload
+payload-back p pr r e =
+    let l : length p ≤ length (filled pr p) = omega (arith, length-append p (replicate (pr - length p) 0)) in
+    rw (e, le-leb (length p) (length (filled pr p)) l) (take-append-seam p _)
+
+-- SIGN, THEN VERIFY
+
+pub sign-verify : (h p T : List ℕ) (room : ℕ) → signAnswer h p T room ≡ 0 → Bytes p
+    → (hr pr : ℕ) → length h ≤ hr → length p ≤ pr
+    → verified (tokenIn (signed h p T room)) T hr pr ≡ accepted h p (recordOf h p (headerChoice h (keys T))) hr pr
+sign-verify h p T room e pb hr pr k l =
+    ap (λ (s : SignOutcome). verified (tokenIn s) T hr pr) (sign-is h p T room e)
+    ∙ ap (λ (x : List ℕ). verified x T hr pr) (take-append-seam (made h p T) _)
+    ∙ accepted-if (made h p T) T hr pr h p (recordOf h p (headerChoice h (keys T))) (signed-accepted h p T room e pb hr pr k l)
+
+-- VERIFY, THEN SIGN
+pub verify-sign : (t T : List ℕ) (hr pr : ℕ) → verifyAnswer t T hr pr ≡ 0 → (room : ℕ) → length t ≤ room
+    → signed (headerIn (verified t T hr pr)) (payloadIn (verified t T hr pr)) T room ≡ signedAs t room
+verify-sign t T hr pr e room k =
+    let a = accepted-only t T hr pr e in
+    let h = headerOf t in
+    let p = payloadOf t in
+    let r = recordOf h p (choiceOf t T) in
+    ap (λ (v : VerifyOutcome). signed (headerIn v) (payloadIn v) T room) (verify-is t T hr pr e)
+    ∙ ap (λ (x : List ℕ). signed x (payload r (filled pr p)) T room) (take-append-seam h _)
+    ∙ ap (λ (x : List ℕ). signed h x T room) (payload-back p pr r refl)
+    ∙ sign-good h p T room (accepted-signed h p T room a k)
+    ∙ ap (λ (x : List ℕ). signedAs x room) (sym (a .token))
+
+-- DEMAND 3
+
+-- the member reader's number for member k of h
+abbrev pub memberNumber : List ℕ → ℕ → ℕ
+memberNumber h k = numberOf (memberOf h k)
+
+-- "A header is "read" when the member reader, whichever member it is asked for, answers 0 or 16."
+abbrev pub Read : List ℕ → Type 0
+Read h = (k : ℕ) → (memberNumber h k ≡ 0) ⊎ (memberNumber h k ≡ 16)
+
+in-order-read : {h : List ℕ} {ks : List Key} {c : HeaderChoice} → length h ≤ longest → HeaderChooses h ks c → Read h
+in-order-read {h} l w = read-exactly h l .1 (w .derivation, w .derives, w .shallow, w .once)
+
+-- "Verifying and signing answer 0 only for a header that is read ..
+pub verify-reads : (t T : List ℕ) (hr pr : ℕ) → verifyAnswer t T hr pr ≡ 0 → Read (headerOf t)
+verify-reads t T hr pr e = let a = accepted-only t T hr pr e in in-order-read (a .header-short) (a .header)
+
+pub sign-reads : (h p T : List ℕ) (room : ℕ) → signAnswer h p T room ≡ 0 → Read h
+sign-reads h p T room e = let x = sign-header h p T room e in in-order-read (x .0) (x .1)
+
+-- .. and, where no earlier rule refuses, give 5, 7 or 8 as the member reader does", whichever member k it is asked for.
+module _ (t T : List ℕ) (hr pr k : ℕ) where
+  pub verify-5-as-member : NoneOf (earlier (verifying t T hr pr) 5) → (verifyAnswer t T hr pr ≡ 5) ↔ (memberNumber (headerOf t) k ≡ 5)
+  verify-5-as-member n =
+      let v = verify-first t T hr pr 5 refl in
+      let m = member-first (headerOf t) k 5 refl in
+      ((λ e. m .1 (v .0 e .0, tt)), (λ e. v .1 (m .0 e .0, n)))
+
+  module _ (n : NoneOf (earlier (verifying t T hr pr) 7)) where
+    no : (m : ℕ) → condition (earlier (verifying t T hr pr) 7) m → ⊥
+    no = not-on (earlier (verifying t T hr pr) 7) n
+
+    pub verify-7-as-member : (verifyAnswer t T hr pr ≡ 7) ↔ (memberNumber (headerOf t) k ≡ 7)
+    verify-7-as-member =
+        let v = verify-first t T hr pr 7 refl in
+        let m = member-first (headerOf t) k 7 refl in
+        ((λ e. m .1 (v .0 e .0, no 5 also tt)), (λ e. v .1 (m .0 e .0, n)))
+
+    pub verify-8-as-member : (verifyAnswer t T hr pr ≡ 8) ↔ (memberNumber (headerOf t) k ≡ 8)
+    verify-8-as-member =
+        let v = verify-first t T hr pr 8 refl in
+        let m = member-first (headerOf t) k 8 refl in (
+          (λ e. let w = v .0 e in m .1 (w .0, no 5 also not-on (earlier (verifying t T hr pr) 8) (w .1) 7 also tt)),
+          (λ e. let w = m .0 e in v .1 (w .0, no 1 also no 2 also no 3 also no 4 also no 5 also no 6 also w .1 .1 .0 also tt)),
+        )
+
+-- in signing, 5, 7 and 8 stand one after the other, and only 2 before them
+module _ (h p T : List ℕ) (room k : ℕ) (table : Wellformed T) where
+  past-2 : {P Q C E : Type 0} → P ↔ (C × (((Wellformed T → ⊥) → ⊥) × E)) → Q ↔ (C × E) → P ↔ Q
+  past-2 s m = ((λ e. let w = s .0 e in m .1 (w .0, w .1 .1)), (λ e. let w = m .0 e in s .1 (w .0, ((λ n. n table), w .1))))
+
+  pub sign-5-as-member : (signAnswer h p T room ≡ 5) ↔ (memberNumber h k ≡ 5)
+  sign-5-as-member = past-2 (sign-first h p T room 5 refl) (member-first h k 5 refl)
+
+  pub sign-7-as-member : (signAnswer h p T room ≡ 7) ↔ (memberNumber h k ≡ 7)
+  sign-7-as-member = past-2 (sign-first h p T room 7 refl) (member-first h k 7 refl)
+
+  pub sign-8-as-member : (signAnswer h p T room ≡ 8) ↔ (memberNumber h k ≡ 8)
+  sign-8-as-member = past-2 (sign-first h p T room 8 refl) (member-first h k 8 refl)

@@ -1,0 +1,111 @@
+-- The rules and their tests agree; what the calls give, by the first test that is true.
+use mathlib.Core.Path.{_≡_, refl, sym, ap, _∙_}
+use mathlib.Core.Bool.{not}
+use mathlib.Core.List.{List}
+use Prim.Native.Nat.{ℕ, zero, suc}
+use native.Mathlib.Omega.{arith}
+use Rattle.common.specs.First.{NoneOf, first, Decides, Agree, done, _by_, none-stands, agree-append, decides-lt, decides-eq, decides-not, decides-or, decides-iff}
+use Rattle.common.specs.Decided.{test-false, decides-false}
+use Rattle.common.specs.Same.{same, decides-same}
+use Rattle.hmac.specs.Hmac.{HMACSHA256}
+use Rattle.keytable.specs.Key.{Distinct}
+use Rattle.keytable.specs.Table.{Wellformed, keys}
+use Rattle.keytable.specs.TableLaws.{decides-bad}
+use Rattle.keytable.specs.GoodKeys.{keys-distinct}
+use Rattle.jose_rules.specs.Header.{heading}
+use Rattle.jose_rules.specs.HeaderLaws.{heading-agree, header-chooses, header-chooses-one}
+use Rattle.jws_rules.specs.Token.{headerOf, payloadOf, signatureOf, covered, secretOf}
+use Rattle.jws_rules.specs.Outcomes.{VerifyOutcome, SignOutcome, recordOf, refused, accepted, unsigned, signedAs}
+use Rattle.jws_rules.specs.Rules.{verifying, Differs, signing}
+use Rattle.jws_rules.specs.Tests.{settle, choiceOf, verifyTests, verified, verifyAnswer, signTests, made, signed, signAnswer}
+
+-- SETTLED
+
+pub settle-good : {A : Type 0} (n : ℕ) (v : A) (f : ℕ → A) → n ≡ 0 → settle n v f ≡ v
+settle-good zero v f e = refl
+settle-good (suc n) v f e = absurd (omega arith)
+
+pub settle-bad : {A : Type 0} (n : ℕ) (v : A) (f : ℕ → A) → (n ≡ 0 → ⊥) → settle n v f ≡ f n
+settle-bad zero v f h = absurd (h refl)
+settle-bad (suc n) v f h = refl
+
+-- the answer in what is given is the number
+settle-answer : {A : Type 0} (answer : A → ℕ) (n : ℕ) (v : A) (f : ℕ → A) → answer v ≡ 0 → ((m : ℕ) → answer (f m) ≡ m) → answer (settle n v f) ≡ n
+settle-answer answer zero v f e g = e
+settle-answer answer (suc n) v f e g = g (suc n)
+
+-- THE TABLE
+
+pub distinct : (T : List ℕ) → ((Wellformed T → ⊥) → ⊥) → Distinct (keys T)
+distinct T w = keys-distinct T (test-false (decides-bad T) w)
+
+-- VERIFYING
+
+decides-differs : (t T : List ℕ) → Distinct (keys T) → NoneOf (heading (headerOf t) (keys T))
+    → Decides (Differs t T) (not (same (signatureOf t) (HMACSHA256 (secretOf T (choiceOf t T)) (covered t))))
+decides-differs t T d n =
+    let h = headerOf t in
+    decides-iff (λ x. (choiceOf t T, header-chooses h (keys T) d n, x))
+    (λ x e. x .2 (e ∙ ap (λ c. HMACSHA256 (secretOf T c) (covered t)) (sym (header-chooses-one h (keys T) d (x .0) (x .1)))))
+    (decides-not (decides-same _ _))
+
+pub verify-agree : (t T : List ℕ) (hr pr : ℕ) → Agree (verifying t T hr pr) (verifyTests t T hr pr)
+verify-agree t T hr pr =
+    decides-lt _ _
+    by λ _. decides-bad T
+    by λ table. decides-not (decides-eq _ _)
+    by λ _. decides-or (decides-false _) (decides-or (decides-false _) (decides-false _))
+    by λ _. decides-lt _ _
+    by λ _. decides-or (decides-lt _ _) (decides-lt _ _)
+    by λ _. agree-append (heading-agree (headerOf t) (keys T) (distinct T table)) (λ n. decides-differs t T (distinct T table) n by λ _. done)
+
+pub verify-number : (t T : List ℕ) (hr pr : ℕ) → verifyAnswer t T hr pr ≡ first (verifyTests t T hr pr)
+unfolding verified
+verify-number t T hr pr = settle-answer (λ (v : VerifyOutcome). v .gives .answer) (first (verifyTests t T hr pr)) _ _ refl (λ m. refl)
+
+pub verify-good : (t T : List ℕ) (hr pr : ℕ) → NoneOf (verifying t T hr pr)
+    → verified t T hr pr ≡ accepted (headerOf t) (payloadOf t) (recordOf (headerOf t) (payloadOf t) (choiceOf t T)) hr pr
+unfolding verified
+verify-good t T hr pr h = settle-good _ _ _ (none-stands (verify-agree t T hr pr) refl .1 h)
+
+-- on 0 no condition holds, and what is given is read off the token
+pub verify-clear : (t T : List ℕ) (hr pr : ℕ) → verifyAnswer t T hr pr ≡ 0 → NoneOf (verifying t T hr pr)
+verify-clear t T hr pr e = none-stands (verify-agree t T hr pr) refl .0 (sym (verify-number t T hr pr) ∙ e)
+
+pub verify-is : (t T : List ℕ) (hr pr : ℕ) → verifyAnswer t T hr pr ≡ 0
+    → verified t T hr pr ≡ accepted (headerOf t) (payloadOf t) (recordOf (headerOf t) (payloadOf t) (choiceOf t T)) hr pr
+verify-is t T hr pr e = verify-good t T hr pr (verify-clear t T hr pr e)
+
+pub verify-bad : (t T : List ℕ) (hr pr : ℕ) → (verifyAnswer t T hr pr ≡ 0 → ⊥) → verified t T hr pr ≡ refused (verifyAnswer t T hr pr) hr pr
+unfolding verified
+verify-bad t T hr pr h =
+    settle-bad (first (verifyTests t T hr pr)) _ (λ n. refused n hr pr) (λ e. h (verify-number t T hr pr ∙ e))
+    ∙ ap (λ (n : ℕ). refused n hr pr) (sym (verify-number t T hr pr))
+
+-- SIGNING
+
+pub sign-agree : (h p T : List ℕ) (room : ℕ) → Agree (signing h p T room) (signTests h p T room)
+sign-agree h p T room =
+    decides-bad T
+    by λ table. decides-lt _ _
+    by λ _. agree-append (heading-agree h (keys T) (distinct T table)) (λ _. decides-lt _ _ by λ _. decides-lt _ _ by λ _. done)
+
+pub sign-number : (h p T : List ℕ) (room : ℕ) → signAnswer h p T room ≡ first (signTests h p T room)
+unfolding signed
+sign-number h p T room = settle-answer (λ (s : SignOutcome). s .gives .answer) (first (signTests h p T room)) _ _ refl (λ m. refl)
+
+pub sign-good : (h p T : List ℕ) (room : ℕ) → NoneOf (signing h p T room) → signed h p T room ≡ signedAs (made h p T) room
+unfolding signed
+sign-good h p T room k = settle-good _ _ _ (none-stands (sign-agree h p T room) refl .1 k)
+
+pub sign-clear : (h p T : List ℕ) (room : ℕ) → signAnswer h p T room ≡ 0 → NoneOf (signing h p T room)
+sign-clear h p T room e = none-stands (sign-agree h p T room) refl .0 (sym (sign-number h p T room) ∙ e)
+
+pub sign-is : (h p T : List ℕ) (room : ℕ) → signAnswer h p T room ≡ 0 → signed h p T room ≡ signedAs (made h p T) room
+sign-is h p T room e = sign-good h p T room (sign-clear h p T room e)
+
+pub sign-bad : (h p T : List ℕ) (room : ℕ) → (signAnswer h p T room ≡ 0 → ⊥) → signed h p T room ≡ unsigned (signAnswer h p T room) room
+unfolding signed
+sign-bad h p T room k =
+    settle-bad (first (signTests h p T room)) _ (λ n. unsigned n room) (λ e. k (sign-number h p T room ∙ e))
+    ∙ ap (λ (n : ℕ). unsigned n room) (sym (sign-number h p T room))

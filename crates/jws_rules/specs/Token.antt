@@ -1,0 +1,44 @@
+-- A compact token: how it is made, and how its parts are read off it (RFC 7515 sections 3.1, 5.1 and 7.1; RFC 7518 section 3.2).
+use mathlib.Core.List.{List}
+use Prim.Native.Nat.{ℕ, _+_}
+use lib.ListN.{length}
+use Rattle.base64url.specs.Base64url.{encode, decode}
+use Rattle.hmac.specs.Hmac.{HMACSHA256}
+use Rattle.keytable.specs.Key.{key}
+use Rattle.keytable.specs.Table.{keys}
+use Rattle.jose_rules.specs.Header.{HeaderChoice}
+use Rattle.jws_rules.specs.Segments.{front, back, _dot_}
+
+-- the longest token
+abbrev pub tokenMost : ℕ
+tokenMost = 16384
+
+-- the MAC over header and payload, in base64url with the period between
+abbrev pub macOf : List ℕ → List ℕ → List ℕ → List ℕ
+macOf secret h p = HMACSHA256 secret (encode h dot encode p)
+
+-- header, payload and MAC, each in base64url
+abbrev pub tokenOf : List ℕ → List ℕ → List ℕ → List ℕ
+tokenOf secret h p = encode h dot encode p dot encode (macOf secret h p)
+
+-- its length: the MAC takes 43 characters
+abbrev pub finishedLength : List ℕ → List ℕ → ℕ
+finishedLength h p = length (encode h) + length (encode p) + 43 + 2
+
+-- "Three segments between two periods, in the order header, payload, signature."
+abbrev pub headerOf : List ℕ → List ℕ
+headerOf t = decode (front t)
+
+abbrev pub payloadOf : List ℕ → List ℕ
+payloadOf t = decode (front (back t))
+
+abbrev pub signatureOf : List ℕ → List ℕ
+signatureOf t = decode (back (back t))
+
+-- "The MAC covers the token's own bytes before the second period."
+abbrev pub covered : List ℕ → List ℕ
+covered t = front t dot front (back t)
+
+-- the secret of the key that a header chooses
+abbrev pub secretOf : List ℕ → HeaderChoice → List ℕ
+secretOf T c = key (keys T) (c .choice .index) .secret
