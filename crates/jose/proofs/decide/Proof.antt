@@ -1,0 +1,22 @@
+-- `decide`: 2, or as `decide_with`.
+use borrow.Author.Needs.{needs}
+use mathlib.Core.Path.{sym, _∙_}
+use borrow.Author.Tests.{not-true, not-false}
+use Rattle.jose.proofs.PhaseLaws.{decision-good, decision-bad}
+use Rattle.jose.proofs.decide.Statement.{statement}
+use Rattle.jose.proofs.decide.Tie as tie
+
+good-requires : tie.Need-good-requires
+good-requires c κs = search needs
+
+decide-with-requires : tie.Need-decide-with-requires
+decide-with-requires c κs = not-true _ (sym (c .before .good2 .ensures) ∙ c .if1 .taken)
+
+returns : tie.Need-returns
+returns c = c .decide-with .ensures ∙ decision-good _ _ (not-true _ (sym (c .before .before .good2 .ensures) ∙ c .before .if1 .taken))
+
+returns-2 : tie.Need-returns-2
+returns-2 c = decision-bad _ _ (not-false _ (sym (c .before .good2 .ensures) ∙ c .if1 .left))
+
+pub decide-spec : {M : Type 1} → statement M
+decide-spec = tie.close (tie.spec good-requires decide-with-requires returns returns-2)

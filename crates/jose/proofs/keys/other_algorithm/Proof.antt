@@ -1,0 +1,53 @@
+-- `other_algorithm`, by the kind of the slot.
+use mathlib.Core.Path.{sym, _∙_}
+use denote.Ref.{now}
+use Rattle.jose.specs.declared.members.Slot.the-variants.{Is}
+use Rattle.jose_rules.specs.Names.{ascii, alg, HS256}
+use Rattle.jose.specs.Slots.{Stands}
+use Rattle.jose.proofs.WordLaws.{name-within}
+use Rattle.jose.proofs.SlotLaws.{stands-as, string-at}
+use Rattle.jose.proofs.KeyLaws.{algorithm-absent, algorithm-string, algorithm-other}
+use borrow.Author.Needs.{needs}
+use Rattle.jose.proofs.keys.other_algorithm.Statement.{statement}
+use Rattle.jose.proofs.keys.other_algorithm.Tie as tie
+
+there : (c : tie.After-known-told) → Stands (now (c .before .before .before .before .args .header)) alg (Is (c .before .slot .given .0 .0) (c .before .slot .given .0 .1 .0))
+there c = stands-as (c .before .before .before .before .pre) (c .before .slot .given .1)
+
+enum-known-slot : tie.Need-enum-known-slot
+enum-known-slot c = search needs
+
+enum-told : tie.Need-enum-told
+enum-told c = search needs
+
+returns : tie.Need-returns
+returns c = algorithm-absent (stands-as (c .before .before .before .pre) (c .enum-told .given .1))
+
+is-string-requires : tie.Need-is-string-requires
+is-string-requires c κs = search needs
+
+slice-aggregate-text-is : tie.Need-slice-aggregate-text-is
+slice-aggregate-text-is c = search needs
+
+text-is-requires : tie.Need-text-is-requires
+text-is-requires c κs = name-within _ _ _ (string-at (there (c .before .before .before)) (sym (c .before .before .is-string .ensures) ∙ c .before .if1 .taken) .2)
+
+returns-2 : tie.Need-returns-2
+unfolding ascii HS256
+returns-2 c = algorithm-string (there (c .before .before .before .before)) (sym (c .before .before .before .is-string .ensures) ∙ c .before .before .if1 .taken) _ (c .text-is .ensures)
+
+returns-3 : tie.Need-returns-3
+returns-3 c = algorithm-other (there (c .before .before)) (sym (c .before .is-string .ensures) ∙ c .if1 .left)
+
+pub other-algorithm-spec : {M : Type 1} → statement M
+other-algorithm-spec =
+    tie.close
+    (tie.spec
+    enum-known-slot
+    enum-told
+    returns
+    is-string-requires
+    slice-aggregate-text-is
+    text-is-requires
+    returns-2
+    returns-3)

@@ -1,0 +1,18 @@
+-- `is_array`: the number of the kind is 6.
+use Prim.Native.Nat.{ℕ}
+use mathlib.Core.Path.{ap}
+use lib.Dec.{eqb}
+use Rattle.json.specs.Answers.{kindNumber}
+use borrow.Author.Needs.{needs}
+use Rattle.jose.proofs.kinds.is_array.Statement.{statement}
+use Rattle.jose.proofs.kinds.is_array.Tie as tie
+
+number-of-requires : tie.Need-number-of-requires
+number-of-requires c κs = search needs
+
+returns : tie.Need-returns
+unfolding kindNumber
+returns c = ap (λ (n : ℕ). eqb n 6) (c .number-of .ensures)
+
+pub is-array-spec : {M : Type 1} → statement M
+is-array-spec = tie.close (tie.spec number-of-requires returns)

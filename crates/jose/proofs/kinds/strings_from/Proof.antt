@@ -1,0 +1,63 @@
+-- `strings_from`. The loop's invariant: what is right for the elements from p on is right for all of them.
+use Prim.Native.Nat.{_-_, _<_}
+use mathlib.Core.Bool.{Bool}
+use lib.ListN.{length}
+use Rattle.jose.specs.Slots.{StringsFrom}
+use Rattle.jose.proofs.KindLaws.{strings-next, strings-last, strings-other}
+use borrow.Author.Needs.{needs}
+use native.Mathlib.Omega.{arith}
+use Rattle.jose.proofs.kinds.strings_from.Statement.{statement}
+use Rattle.jose.proofs.kinds.strings_from.Tie as tie
+
+abbrev Inv-loop : tie.InvT-loop
+Inv-loop header from p₀ p = (p < length header) × ((r : Bool) → StringsFrom header p r → StringsFrom header from r)
+
+abbrev μ-loop : tie.MeasureT-loop
+μ-loop header from p₀ p = length header - p
+
+loop-holds : tie.Need-loop-holds Inv-loop μ-loop
+loop-holds c = (c .before .pre, λ r w. w)
+
+sub-item-at : tie.Need-sub-item-at Inv-loop μ-loop
+sub-item-at c = omega arith
+
+item-at-requires : tie.Need-item-at-requires Inv-loop μ-loop
+item-at-requires c κs = omega arith
+
+is-string-requires : tie.Need-is-string-requires Inv-loop μ-loop
+is-string-requires c κs = search needs
+
+enum-known-next : tie.Need-enum-known-next Inv-loop μ-loop
+enum-known-next c = search needs
+
+loop-less : tie.Need-loop-less Inv-loop μ-loop
+loop-less c = let l = c .before .before .before .before .before .item-at .ensures .later _ (c .before .next .given .1) in omega arith
+
+loop-again : tie.Need-loop-again Inv-loop μ-loop
+loop-again c = (c .before .before .before .before .before .item-at .ensures .later _ (c .before .next .given .1) .1, λ r w. c .before .before .before .before .before .before .loop .inv .1 r (strings-next (c .before .before .before .before .before .item-at .ensures) (c .before .before .before .before .is-string .ensures) (c .before .before .before .if1 .taken) (c .before .next .given .1) w))
+
+enum-told : tie.Need-enum-told Inv-loop μ-loop
+enum-told c = search needs
+
+returns : tie.Need-returns Inv-loop μ-loop
+returns c = c .before .before .before .before .before .loop .inv .1 _ (strings-last (c .before .before .before .before .item-at .ensures) (c .before .before .before .is-string .ensures) (c .before .before .if1 .taken) (c .enum-told .given .1))
+
+returns-2 : tie.Need-returns-2 Inv-loop μ-loop
+returns-2 c = c .before .before .before .loop .inv .1 _ (strings-other (c .before .before .item-at .ensures) (c .before .is-string .ensures) (c .if1 .left))
+
+pub strings-from-spec : {M : Type 1} → statement M
+strings-from-spec =
+    tie.close
+    (tie.spec
+    Inv-loop
+    μ-loop
+    loop-holds
+    sub-item-at
+    item-at-requires
+    is-string-requires
+    enum-known-next
+    loop-less
+    loop-again
+    enum-told
+    returns
+    returns-2)

@@ -1,0 +1,2 @@
+-- The known members as the code holds them.
+pub mod Slots

@@ -1,0 +1,170 @@
+// Rule 9: the kinds of the known members' values. The format is read here, since its kind is that of its characters.
+ghost use mathlib.Core.Path.{_≡_};
+ghost use mathlib.Core.Bool.{false};
+ghost use Prim.Native.Nat.{_<_};
+ghost use lib.ListN.{length};
+ghost use Rattle.json_grammar.specs.Places.{stringK, numberK, arrayK};
+ghost use Rattle.json.specs.Answers.{kindNumber};
+ghost use Rattle.json.specs.Members.{kindIn};
+ghost use Rattle.jose_rules.specs.HeaderTests.{reading};
+ghost use Rattle.jose_rules.specs.Members.{strings, valueOf};
+ghost use Rattle.jose_rules.specs.Names.{crit, fmt};
+ghost use Rattle.jose_rules.specs.Only.{absent};
+ghost use Rattle.jose.specs.Slots.{Stands, Located, isOf, noString, sizeOf, StringsFrom};
+ghost use Rattle.jose_rules.specs.Tests.{wrong, format, missingOrWrong};
+use crate::members::INSIDE;
+use crate::members::Known;
+use crate::members::Slot;
+use crate::members::there;
+use decimal::Integer;
+use decimal::parse;
+use json::Kind;
+use json::Place;
+use json::first_element;
+use json::item_at;
+use json_string::End;
+
+// Whether a known member is missing or has the wrong kind, of a header whose format is an integer.
+pub(crate) fn missing_or_wrong(header: &[u8], known: Known) -> bool
+    requires { ⌜ Located (now header) known × (absent (format (reading (now header))) ≡ false) ⌝ }
+    ensures { λ r. ⌜ r ≡ missingOrWrong (reading (now (header .entry))) ⌝ }
+{
+    let alg = known.alg;
+    if there(alg) {
+        if no_string(alg) {
+            return true;
+        }
+        let kid = known.kid;
+        if no_string(kid) {
+            return true;
+        }
+        let typ = known.typ;
+        if no_string(typ) {
+            return true;
+        }
+        let cty = known.cty;
+        if no_string(cty) {
+            return true;
+        }
+        let crit = known.crit;
+        return no_strings(header, crit);
+    }
+    true
+}
+
+// The format: the integer of `fmt`, or 1 where there is none.
+pub(crate) fn format_of(header: &[u8], slot: Slot) -> Integer
+    requires { ⌜ Stands (now header) fmt slot ⌝ }
+    ensures { λ r. ⌜ valueOf r ≡ format (reading (now (header .entry))) ⌝ }
+{
+    let Slot::Is(kind, place) = slot else {
+        return Integer::Is(1);
+    };
+    if is_number(kind) {
+        let start = place.start;
+        let end = start + size(place);
+        return parse(&header[start..end]);
+    }
+    Integer::No
+}
+
+// Whether the member is there and isn't a string.
+fn no_string(slot: Slot) -> bool
+    ensures { λ r. ⌜ r ≡ noString slot ⌝ }
+{
+    match slot {
+        Slot::Absent => false,
+        Slot::Is(kind, _) => !is_string(kind),
+    }
+}
+
+// Whether `crit` is there and isn't an array of strings only.
+fn no_strings(header: &[u8], slot: Slot) -> bool
+    requires { ⌜ Stands (now header) crit slot ⌝ }
+    ensures { λ r. ⌜ r ≡ wrong strings crit (reading (now (header .entry))) ⌝ }
+{
+    let Slot::Is(kind, place) = slot else {
+        return false;
+    };
+    if is_array(kind) {
+        match first_element(header, place.start) {
+            End::At(from) => {
+                return !strings_from(header, from);
+            }
+            End::Bad => {
+                return false;
+            }
+        }
+    }
+    true
+}
+
+// Whether the elements from `from` on are strings only.
+fn strings_from(header: &[u8], from: usize) -> bool
+    requires { ⌜ from < length (now header) ⌝ }
+    ensures { λ r. ⌜ StringsFrom (now (header .entry)) from r ⌝ }
+{
+    let mut p = from;
+    loop {
+        let i = item_at(header, p, INSIDE - 1);
+        let kind = i.kind;
+        if is_string(kind) {
+            let next = i.next;
+            match next {
+                End::At(q) => {
+                    p = q;
+                }
+                End::Bad => {
+                    return true;
+                }
+            }
+        } else {
+            return false;
+        }
+    }
+}
+
+// How many bytes a place has.
+pub(crate) fn size(place: Place) -> usize
+    ensures { λ r. ⌜ r ≡ sizeOf place ⌝ }
+{
+    let start = place.start;
+    let end = place.end;
+    if start < end {
+        return end - start;
+    }
+    0
+}
+
+pub(crate) fn is_string(kind: Kind) -> bool
+    ensures { λ r. ⌜ r ≡ isOf stringK kind ⌝ }
+{
+    number_of(kind) == 1
+}
+
+fn is_number(kind: Kind) -> bool
+    ensures { λ r. ⌜ r ≡ isOf numberK kind ⌝ }
+{
+    number_of(kind) == 2
+}
+
+fn is_array(kind: Kind) -> bool
+    ensures { λ r. ⌜ r ≡ isOf arrayK kind ⌝ }
+{
+    number_of(kind) == 6
+}
+
+// The number of a kind, 1 to 7 in the specification's order.
+fn number_of(kind: Kind) -> u8
+    ensures { λ r. ⌜ r ≡ kindNumber (kindIn kind) ⌝ }
+{
+    match kind {
+        Kind::String => 1,
+        Kind::Number => 2,
+        Kind::True => 3,
+        Kind::False => 4,
+        Kind::Null => 5,
+        Kind::Array => 6,
+        Kind::Object => 7,
+    }
+}
