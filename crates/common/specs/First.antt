@@ -235,3 +235,29 @@ pub first-within : (us ts : List Test) → (first us ≡ 0 → ⊥) → first (u
 first-within [] ts h = absurd (h refl)
 first-within ((n when true) ∷ us) ts h = refl
 first-within ((n when false) ∷ us) ts h = first-within us ts h
+
+-- no test has the number 0
+abbrev pub numbered : List Test → Bool
+numbered [] = true
+numbered ((n when b) ∷ ts) = not (eqb n 0) && numbered ts
+
+-- every test is false
+abbrev pub Pass : List Test → Type 0
+Pass [] = Unit {0}
+Pass ((n when b) ∷ ts) = (b ≡ false) × Pass ts
+
+pub all-pass : (ts : List Test) → numbered ts ≡ true → first ts ≡ 0 → Pass ts
+all-pass [] u e = tt
+all-pass ((n when true) ∷ ts) u e = never (sym (ap (λ (b : Bool). not b && numbered ts) (eq-eqb n 0 e)) ∙ u)
+all-pass ((n when false) ∷ ts) u e = (refl, all-pass ts (and-right (not (eqb n 0)) (numbered ts) u) e)
+
+pub first-next : (n : ℕ) {b : Bool} (ts : List Test) → b ≡ false → first ((n when b) ∷ ts) ≡ first ts
+first-next n ts e = rw e
+
+past : (us ts : List Test) → Pass us → first (us ++ ts) ≡ first ts
+past [] ts p = refl
+past ((n when b) ∷ us) ts p = first-next n (us ++ ts) (p .0) ∙ past us ts (p .1)
+
+-- .. where none of them does, only the later ones are
+pub first-after : (us ts : List Test) → numbered us ≡ true → first us ≡ 0 → first (us ++ ts) ≡ first ts
+first-after us ts u e = past us ts (all-pass us u e)

@@ -1,5 +1,6 @@
 pub mod Bytes
 pub mod BigEndian
+pub mod LittleEndian
 pub mod Buffer
 pub mod First
 pub mod Decided

@@ -1,9 +1,10 @@
-// What several crates need of byte slices: clearing and copying.
+// What several crates need of byte slices: clearing, copying, and numbers in bytes.
 ghost use mathlib.Core.Path.{_≡_};
 ghost use Prim.Native.Nat.{_+_, _≤_, _<_};
 ghost use lib.ListN.{length, replicate};
 ghost use lib.Seq.{paste};
 ghost use Rattle.common.specs.BigEndian.{number2, number4};
+ghost use Rattle.common.specs.LittleEndian.{word4, word8};
 
 // Sets every byte to 0. Rules out a byte left behind at either end.
 pub fn zero(b: &mut [u8])
@@ -49,4 +50,21 @@ pub fn number4_at(b: &[u8], i: usize) -> u32
     ensures { λ r. ⌜ r ≡ number4 (now (b .entry)) i ⌝ }
 {
     ((wide(b[i]) * 256 + wide(b[i + 1])) * 256 + wide(b[i + 2])) * 256 + wide(b[i + 3])
+}
+
+// The word in the four bytes at i, the lowest first.
+fn word4_at(b: &[u8], i: usize) -> u32
+    requires { ⌜ i + 3 < length (now b) ⌝ }
+    ensures { λ r. ⌜ r ≡ word4 (now (b .entry)) i ⌝ }
+{
+    ((wide(b[i + 3]) * 256 + wide(b[i + 2])) * 256 + wide(b[i + 1])) * 256 + wide(b[i])
+}
+
+// The word in the eight bytes at i, the lowest first: one load, to compare eight bytes at once. Rules out four bytes read twice, and
+// four bytes laid over the others.
+pub fn word8_at(b: &[u8], i: usize) -> u64
+    requires { ⌜ i + 7 < length (now b) ⌝ }
+    ensures { λ r. ⌜ r ≡ word8 (now (b .entry)) i ⌝ }
+{
+    word4_at(b, i + 4) as u64 * 4294967296 + word4_at(b, i) as u64
 }

@@ -5,7 +5,7 @@ use mathlib.Core.List.{List, [], _∷_, _++_}
 use mathlib.Core.Option.{none}
 use Prim.Native.Nat.{ℕ, zero, suc}
 use native.Mathlib.Omega.{arith}
-use Rattle.common.specs.First.{Test, _when_, first, first-within}
+use Rattle.common.specs.First.{Test, _when_, first, first-within, first-after}
 use Rattle.json_grammar.specs.Value.{Members}
 use Rattle.json_reader.specs.Contracts.{isText}
 use Rattle.json.specs.Answers.{headerTests, checked}
@@ -16,7 +16,6 @@ use Rattle.jose_rules.specs.declared.Decision.the-variants.{Refused}
 use Rattle.jose_rules.specs.Header.{HeaderChoice}
 use Rattle.jose_rules.specs.HeaderTests.{reading, headerChoice}
 use Rattle.jose_rules.specs.Tests.{format, missingOrWrong, criticalBroken, knownTests}
-use Rattle.jose_rules.specs.DecisionLaws.{numbered, Pass, all-pass}
 use Rattle.jose_rules.specs.Decision.{decided, decisionTests, decisionWith, decision}
 use Rattle.jose.specs.Slots.{otherAlgorithm, memberTests, keyTests, membersRefused, keyDecision}
 use Rattle.jose.proofs.KindLaws.{wrong-last}
@@ -25,13 +24,6 @@ use Rattle.jose.proofs.KindLaws.{wrong-last}
 
 first-next : (n : ℕ) {b : Bool} (ts : List Test) → b ≡ false → first ((n when b) ∷ ts) ≡ first ts
 first-next n ts e = rw e
-
-past : (us ts : List Test) → Pass us → first (us ++ ts) ≡ first ts
-past [] ts p = refl
-past ((n when b) ∷ us) ts p = first-next n (us ++ ts) (p .0) ∙ past us ts (p .1)
-
-first-after : (us ts : List Test) → numbered us ≡ true → first us ≡ 0 → first (us ++ ts) ≡ first ts
-first-after us ts u e = past us ts (all-pass us u e)
 
 decided-refused : (n : ℕ) (c : HeaderChoice) → (n ≡ 0 → ⊥) → Refused n ≡ decided n c
 decided-refused zero c z = absurd (z refl)

@@ -8,7 +8,7 @@ use native.Mathlib.Omega.{arith}
 use lib.Dec.{eqb}
 use lib.ListN.{length}
 use borrow.Author.Tests.{eq-eqb}
-use Rattle.common.specs.First.{Test, _when_, first}
+use Rattle.common.specs.First.{_when_, first, all-pass}
 use Rattle.json_grammar.specs.Value.{Value, Members}
 use Rattle.json_string.specs.Utf8.{utf8}
 use Rattle.keytable.specs.declared.Found.{Found}
@@ -39,27 +39,6 @@ refused-is (suc k) c {n} e = let f : n ≡ suc k = cc in (f, λ z. omega arith)
 pub chosen-is : (k : ℕ) (c : HeaderChoice) {d : Choice} → Chosen d ≡ decided k c → (k ≡ 0) × (d ≡ choiceOf c)
 chosen-is zero c e = (refl, cc)
 chosen-is (suc k) c e = absurd (let z : _≡_ {A = ℕ} 0 1 = cc in omega arith)
-
--- THE TESTS THAT DON'T REFUSE
-
--- no test has the number 0
-abbrev pub numbered : List Test → Bool
-numbered [] = true
-numbered ((n when b) ∷ ts) = not (eqb n 0) && numbered ts
-
--- every test is false
-abbrev pub Pass : List Test → Type 0
-Pass [] = Unit {0}
-Pass ((n when b) ∷ ts) = (b ≡ false) × Pass ts
-
-pub all-pass : (ts : List Test) → numbered ts ≡ true → first ts ≡ 0 → Pass ts
-all-pass [] u e = tt
-all-pass ((n when true) ∷ ts) u e = clash (sym u ∙ ap (λ (b : Bool). not b && numbered ts) (eq-eqb n 0 e))
-all-pass ((n when false) ∷ ts) u e = (refl, all-pass ts (right (not (eqb n 0)) u) e)
-  where
-    right : (a : Bool) → a && numbered ts ≡ true → numbered ts ≡ true
-    right true u = u
-    right false u = clash (sym u)
 
 -- THE KEY
 

@@ -16,7 +16,7 @@ ghost use Rattle.json.specs.Members.{kindIn, TopMembers};
 ghost use Rattle.json.specs.Answers.{checked, shownBy, memberOf, Picks};
 
 // The greatest length of a header, and the greatest depth, in which the top object is 1.
-const LONGEST: usize = 1024;
+pub const LONGEST: usize = 1024;
 
 const DEEPEST: usize = 8;
 

@@ -5,6 +5,7 @@ ghost use lib.ListN.{length};
 ghost use Rattle.common.specs.First.{Decides};
 ghost use Rattle.keytable.specs.Table.{countOf, entryAt, areaAt, part, Placed};
 use common::number2_at;
+use common::word8_at;
 
 // Whether the area whose offset and length stand at `at` has from `least` to `most` bytes, begins at `first`, where the entries
 // end, or later, and ends within the table.
@@ -39,13 +40,11 @@ pub(crate) fn area(table: &[u8], at: usize) -> &[u8]
     &table[start..end]
 }
 
-// Whether two slices have the same bytes.
-pub(crate) fn same(a: &[u8], b: &[u8]) -> bool
+// Whether two slices of one length have the same bytes, byte by byte.
+fn same_bytes(a: &[u8], b: &[u8]) -> bool
+    requires { ⌜ length (now a) ≡ length (now b) ⌝ }
     ensures { λ r. ⌜ Decides (now (a .entry) ≡ now (b .entry)) r ⌝ }
 {
-    if a.len() != b.len() {
-        return false;
-    }
     let mut i: usize = 0;
     while i < a.len() {
         if a[i] != b[i] {
@@ -54,4 +53,26 @@ pub(crate) fn same(a: &[u8], b: &[u8]) -> bool
         i += 1;
     }
     true
+}
+
+// Whether two slices have the same bytes, eight at a time; the last eight may overlap those before them.
+pub(crate) fn same(a: &[u8], b: &[u8]) -> bool
+    ensures { λ r. ⌜ Decides (now (a .entry) ≡ now (b .entry)) r ⌝ }
+{
+    let n = a.len();
+    if n != b.len() {
+        return false;
+    }
+    if n < 8 {
+        return same_bytes(a, b);
+    }
+    let last = n - 8;
+    let mut i: usize = 0;
+    while i < last {
+        if word8_at(a, i) != word8_at(b, i) {
+            return false;
+        }
+        i += 8;
+    }
+    word8_at(a, last) == word8_at(b, last)
 }

@@ -2,7 +2,6 @@
 use mathlib.Core.Path.{_≡_, refl}
 use Prim.Native.Nat.{_-_, _≤_}
 use native.Mathlib.Omega.{arith}
-use borrow.Author.Needs.{needs}  --
 use borrow.Author.Count.{below-none, below-more}
 use Rattle.common.specs.First.{holds, fails}
 use Rattle.keytable.specs.Table.{entryAt, GoodEntries}

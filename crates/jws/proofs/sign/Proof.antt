@@ -1,0 +1,43 @@
+-- `sign` meets its contract: past the result's length the buffer is cleared.
+use lib.ListN.{length}
+use borrow.Author.Needs.{needs}
+use Rattle.jws_rules.specs.Tests.{signed}
+use Rattle.jws.proofs.WrittenLaws.{settled}
+use Rattle.jws.proofs.sign.Statement.{statement}
+use Rattle.jws.proofs.sign.Tie as tie
+
+make-requires : tie.Need-make-requires
+make-requires c κs = search needs
+
+sub-zero : tie.Need-sub-zero
+sub-zero c = search needs
+
+part-zero-start : tie.Need-part-zero-start
+part-zero-start c = search needs
+
+part-zero-end : tie.Need-part-zero-end
+part-zero-end c = search needs
+
+zero-requires : tie.Need-zero-requires
+zero-requires c κs = search needs
+
+same-length : tie.Need-same-length
+same-length c = search needs
+
+returns : tie.Need-returns
+returns c =
+    let m = c .before .before .before .before .before .before in
+    let a = m .before .before .before .before .before .before .args in
+    settled (signed (a .header .now) (a .payload .now) (a .table .now) (length (a .token .now))) (a .token .now) (m .make .last .1 .1 .1 .0) (c .before .before .zero .last .0) (m .make .ensures) (c .before .before .zero .ensures)
+
+pub sign-spec : {M : Type 1} → statement M
+sign-spec =
+    tie.close
+    (tie.spec
+    make-requires
+    sub-zero
+    part-zero-start
+    part-zero-end
+    zero-requires
+    same-length
+    returns)

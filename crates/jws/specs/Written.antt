@@ -1,0 +1,37 @@
+-- What the inner functions of signing promise.
+use mathlib.Core.Path.{_≡_}
+use mathlib.Core.List.{List, [], _∷_}
+use Prim.Native.Nat.{ℕ, _≤_}
+use lib.Dec.{ltb}
+use lib.ListN.{length, take}
+use Rattle.base64url.specs.Outcome.{laid}
+use Rattle.common.specs.Buffer.{filled}
+use Rattle.common.specs.First.{Test, _when_, first}
+use Rattle.jws_rules.specs.declared.Signed.{Signed}
+use Rattle.jws_rules.specs.Outcomes.{SignOutcome, signedAs, unsigned}
+use Rattle.jws_rules.specs.Tests.{settle}
+use Rattle.jws_rules.specs.Token.{tokenMost, tokenOf, finishedLength}
+
+-- s stands at the buffer's front, n bytes long; what follows is as it was
+pub record Front (s token₀ : List ℕ) (n : ℕ) (token : List ℕ) : Type 0 where
+  pub size : n ≡ length s
+  pub buffer : token ≡ laid s token₀
+
+-- a refusal's result
+abbrev pub unsignedResult : ℕ → Signed
+unsignedResult n = record { answer = n; length = 0 }
+
+-- the result whole, and the buffer as far as the result's length goes: what stands past it the outer function clears
+pub record Written (outcome : SignOutcome) (token₀ : List ℕ) (r : Signed) (token : List ℕ) : Type 0 where
+  pub result : r ≡ outcome .gives
+  pub front : outcome .token ≡ filled (length token₀) (take (r .length) token)
+  pub within : r .length ≤ length token
+  pub kept : length token ≡ length token₀
+
+-- the rules on the finished length, 1 and 6
+abbrev pub lengthTests : List ℕ → List ℕ → ℕ → List Test
+lengthTests h p room = 1 when ltb tokenMost (finishedLength h p) ∷ 6 when ltb room (finishedLength h p) ∷ []
+
+-- what signing gives where the header's rules and the table's don't refuse
+unfoldable pub finished : List ℕ → List ℕ → List ℕ → ℕ → SignOutcome
+finished secret h p room = settle (first (lengthTests h p room)) (signedAs (tokenOf secret h p) room) (λ n. unsigned n room)

@@ -1,0 +1,2 @@
+// The longest token.
+pub(crate) const TOKEN_MOST: usize = 16384;

@@ -1,0 +1,63 @@
+// Verifies a token: reads `table.bin` and `token.txt` in the working folder and prints one line, `accepted key=0 fmt=1 payload=70`
+// or `refused ` and the answer's number.
+ghost use Rattle.io.specs.Counts.{Counts};
+use jws::Verified;
+use libc::STDOUT_FILENO;
+
+// A byte more than the longest table and the longest token, so that a longer file is seen to be longer.
+const TABLE_ROOM: usize = 8193;
+
+const TOKEN_ROOM: usize = 16385;
+
+// What the longest header and the payload of the longest token take.
+const HEADER_ROOM: usize = 1024;
+
+const PAYLOAD_ROOM: usize = 12288;
+
+fn say(s: &[u8]) {
+    io::write_all(STDOUT_FILENO, s);
+}
+
+fn number(n: usize) {
+    io::print_decimal(STDOUT_FILENO, n as u64);
+}
+
+fn print(v: Verified) {
+    if v.answer != 0 {
+        say(b"refused ");
+        number(v.answer as usize);
+        say(b"\n");
+        return;
+    }
+    let about = v.about;
+    say(b"accepted key=");
+    number(about.key);
+    say(b" fmt=");
+    number(about.format as usize);
+    say(b" payload=");
+    number(about.payload);
+    say(b"\n");
+}
+
+// Reads a file's first bytes, as many as there is room for, and answers how many. A file that can't be opened counts as empty.
+fn load(path: &[u8], room: &mut [u8]) -> usize
+    ensures { λ r. ⌜ Counts r (now (room .exit)) ⌝ }
+{
+    let fd = os::open_read(path);
+    if fd < 0 {
+        return 0;
+    }
+    let n = io::read_full(fd, room);
+    libc::close(fd);
+    n
+}
+
+fn main() {
+    let mut table = [0u8; TABLE_ROOM];
+    let mut token = [0u8; TOKEN_ROOM];
+    let mut header = [0u8; HEADER_ROOM];
+    let mut payload = [0u8; PAYLOAD_ROOM];
+    let n = load(b"table.bin", &mut table);
+    let m = load(b"token.txt", &mut token);
+    print(jws::verify(&token[..m], &table[..n], &mut header, &mut payload));
+}
