@@ -5,3 +5,4 @@ pub mod Buffer
 pub mod First
 pub mod Decided
 pub mod Same
+pub mod Ascii

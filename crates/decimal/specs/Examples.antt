@@ -2,15 +2,11 @@
 use mathlib.Core.Path.{_≡_, refl}
 use mathlib.Core.List.{List, [], _∷_}
 use Prim.Native.Nat.{ℕ}
-use Prim.Native.Char.{code}
-use Prim.Native.String.{String, [] as end, _∷_ as _and_}
+use Prim.Native.String.{String}
 use lib.IntN.{ℤ, pos, negℤ}
+use Rattle.common.specs.Ascii.{ascii}
 use Rattle.decimal.specs.declared.Integer.the-variants.{Is, No}
 use Rattle.decimal.specs.Integer.{integerOf, allDigits, after}
-
-unfoldable pub ascii : String → List ℕ
-ascii end = []
-ascii (_and_ c s) = code c ∷ ascii s
 
 abbrev pub Reads : String → ℤ → Type 0
 Reads s z = integerOf (ascii s) ≡ Is z

@@ -6,7 +6,8 @@ use mathlib.Core.Option.{Option, none, some}
 use Prim.Native.Nat.{ℕ, _+_, _-_, _<_}
 use lib.ListN.{length}
 use Rattle.common.specs.First.{Decides, holds}
-use Rattle.json_grammar.specs.Value.{Value, Members, LItems, inil, icons, plainItem, plainItems, eqList, among, repeated}
+use Rattle.common.specs.Same.{same, decides-same}
+use Rattle.json_grammar.specs.Value.{Value, Members, LItems, inil, icons, plainItem, plainItems, among, repeated}
 use Rattle.json_grammar.specs.Places.{arrayK}
 use Rattle.json_string.specs.declared.End.{End}
 use Rattle.json_string.specs.declared.End.the-variants.{At, Bad}
@@ -18,11 +19,12 @@ use Rattle.json.specs.Members.{ArrayAt, ElementsFrom, FirstElement, ItemAt}
 use Rattle.json.specs.MemberLaws.{no-elements}
 use Rattle.jose.specs.declared.members.Slot.{Slot}
 use Rattle.jose.specs.declared.members.Slot.the-variants.{Absent, Is}
-use Rattle.jose_rules.specs.Names.{ascii, alg, kid, typ, cty, crit, fmt}
+use Rattle.common.specs.Ascii.{ascii}
+use Rattle.jose_rules.specs.Names.{alg, kid, typ, cty, crit, fmt}
 use Rattle.jose_rules.specs.Members.{string, strings, integer, stringsIn}
 use Rattle.jose_rules.specs.Only.{absent, given, bind}
 use Rattle.jose_rules.specs.HeaderTests.{reading}
-use Rattle.jose_rules.specs.Known.{decides-eqList, or-false}
+use Rattle.jose_rules.specs.Known.{or-false}
 use Rattle.jose_rules.specs.Tests.{lookup, said, wrong, anyOf, empty, listed, missingOrWrong, criticalBroken}
 use Rattle.jose.specs.Slots.{inside, Stands, isThere, isOf, formatAlone}
 use Rattle.jose.proofs.WordLaws.{isAscii, text-word}
@@ -75,7 +77,7 @@ module _ {h n : List ℕ} {x : Span} (a : Strings h n x) where
     unfolding formatAlone isAscii ascii fmt
     lists-other t w f = sym (lists-is ∙ go others (sym (text-word fmt refl h (i .value .start) t w text (first-string .at)) ∙ f))
       where
-        go : (o : Option (List (List ℕ))) → eqList text fmt ≡ false → given formatAlone (bind o (λ ns. some (text ∷ ns))) ≡ false
+        go : (o : Option (List (List ℕ))) → same text fmt ≡ false → given formatAlone (bind o (λ ns. some (text ∷ ns))) ≡ false
         go none e = refl
         go (some []) e = e
         go (some (m ∷ ms)) e = refl
@@ -121,30 +123,30 @@ crit-fine ms =
 module _ (ms : Members) where
   -- the faults of a list of names
   abbrev faults : List (List ℕ) → Bool
-  faults ns = empty ns || (repeated ns || (anyOf (λ n. not (eqList n fmt)) ns || anyOf (λ n. absent (lookup n ms)) ns))
+  faults ns = empty ns || (repeated ns || (anyOf (λ n. not (same n fmt)) ns || anyOf (λ n. absent (lookup n ms)) ns))
 
   -- a first name other than `fmt` is one, ..
-  first-other : (n : List ℕ) (ns : List (List ℕ)) → eqList n fmt ≡ false → faults (n ∷ ns) ≡ true
+  first-other : (n : List ℕ) (ns : List (List ℕ)) → same n fmt ≡ false → faults (n ∷ ns) ≡ true
   unfolding anyOf
   first-other n ns e = rw e (or-true (repeated (n ∷ ns)))
 
   -- .. and so are two names, ..
   two-names : (n m : List ℕ) (ns : List (List ℕ)) → faults (n ∷ m ∷ ns) ≡ true
   unfolding anyOf repeated among
-  two-names n m ns = go (eqList n fmt) refl (decides-eqList n fmt) (eqList m fmt) refl (decides-eqList m fmt)
+  two-names n m ns = go (same n fmt) refl (decides-same n fmt) (same m fmt) refl (decides-same m fmt)
     where
-      go : (a : Bool) → eqList n fmt ≡ a → Decides (n ≡ fmt) a → (b : Bool) → eqList m fmt ≡ b → Decides (m ≡ fmt) b → faults (n ∷ m ∷ ns) ≡ true
+      go : (a : Bool) → same n fmt ≡ a → Decides (n ≡ fmt) a → (b : Bool) → same m fmt ≡ b → Decides (m ≡ fmt) b → faults (n ∷ m ∷ ns) ≡ true
       go false e p b f q = first-other n (m ∷ ns) e
       go true e p false f q = rw (e, f) (or-true (repeated (n ∷ m ∷ ns)))
-      go true e (holds p) true f (holds q) = let s : eqList n m ≡ true = ap (λ (k : List ℕ). eqList n k) q ∙ e in rw s
+      go true e (holds p) true f (holds q) = let s : same n m ≡ true = ap (λ (k : List ℕ). same n k) q ∙ e in rw s
 
   -- .. any name where there is no `fmt`, and no name
   any-name : lookup fmt ms ≡ none → (ns : List (List ℕ)) → faults ns ≡ true
   unfolding anyOf
   any-name l [] = refl
-  any-name l (n ∷ ns) = go (eqList n fmt) refl (decides-eqList n fmt)
+  any-name l (n ∷ ns) = go (same n fmt) refl (decides-same n fmt)
     where
-      go : (a : Bool) → eqList n fmt ≡ a → Decides (n ≡ fmt) a → faults (n ∷ ns) ≡ true
+      go : (a : Bool) → same n fmt ≡ a → Decides (n ≡ fmt) a → faults (n ∷ ns) ≡ true
       go false e p = first-other n ns e
       go true e (holds p) = let s : lookup n ms ≡ none = ap (λ (k : List ℕ). lookup k ms) p ∙ l in simp (s, or-true)
 
@@ -162,11 +164,11 @@ module _ (ms : Members) where
       go (some v) e = names (strings v) (sym (ap (given (λ v. absent (strings v))) e) ∙ fine)
 
   -- one name, where there is a `fmt`
-  one-name : {v : Value} → lookup fmt ms ≡ some v → (n : List ℕ) → faults (n ∷ []) || not (anyOf (λ m. eqList m fmt) (n ∷ [])) ≡ not (eqList n fmt)
+  one-name : {v : Value} → lookup fmt ms ≡ some v → (n : List ℕ) → faults (n ∷ []) || not (anyOf (λ m. same m fmt) (n ∷ [])) ≡ not (same n fmt)
   unfolding anyOf repeated among
-  one-name {v} l n = go (eqList n fmt) refl (decides-eqList n fmt)
+  one-name {v} l n = go (same n fmt) refl (decides-same n fmt)
     where
-      go : (a : Bool) → eqList n fmt ≡ a → Decides (n ≡ fmt) a → faults (n ∷ []) || not (anyOf (λ m. eqList m fmt) (n ∷ [])) ≡ not (eqList n fmt)
+      go : (a : Bool) → same n fmt ≡ a → Decides (n ≡ fmt) a → faults (n ∷ []) || not (anyOf (λ m. same m fmt) (n ∷ [])) ≡ not (same n fmt)
       go false e p = rw e
       go true e (holds p) = let s : lookup n ms ≡ some v = ap (λ (k : List ℕ). lookup k ms) p ∙ l in rw (e, s)
 
@@ -175,11 +177,11 @@ module _ (ms : Members) where
   unfolding criticalBroken listed formatAlone
   broken-there l = rw l (go (said strings crit ms))
     where
-      go : (o : Option (List (List ℕ))) → given faults o || not (given (λ ns. anyOf (λ m. eqList m fmt) ns) o) ≡ not (given formatAlone o)
+      go : (o : Option (List (List ℕ))) → given faults o || not (given (λ ns. anyOf (λ m. same m fmt) ns) o) ≡ not (given formatAlone o)
       go none = refl
       go (some []) = refl
       go (some (n ∷ [])) = one-name l n
-      go (some (n ∷ m ∷ ns)) = ap (λ (b : Bool). b || not (anyOf (λ m. eqList m fmt) (n ∷ m ∷ ns))) (two-names n m ns)
+      go (some (n ∷ m ∷ ns)) = ap (λ (b : Bool). b || not (anyOf (λ m. same m fmt) (n ∷ m ∷ ns))) (two-names n m ns)
 
 -- by the slots
 module _ {h : List ℕ} {c f : Slot} (crit-is : Stands h crit c) (fmt-is : Stands h fmt f) {b : Bool} (there : b ≡ isThere f) where

@@ -12,7 +12,8 @@ use lib.Signed.{ltZ, nonNeg}
 use lib.ListN.{length, take, drop, length-append}
 use lib.Seq.{take-append-seam}
 use borrow.Author.Tests.{ltb-false, leb-true, leb-false, le-leb}
-use Rattle.json_grammar.specs.Value.{Value, eqList}
+use Rattle.common.specs.Same.{same}
+use Rattle.json_grammar.specs.Value.{Value}
 use Rattle.json_grammar.specs.Places.{stringK}
 use Rattle.json_string.specs.declared.Resolved.{Resolved}
 use Rattle.json_string.specs.declared.Resolved.the-variants.{Bytes, Long}
@@ -30,7 +31,8 @@ use Rattle.jose_rules.specs.declared.Choice.{Choice}
 use Rattle.jose_rules.specs.declared.Decision.the-variants.{Refused, Chosen}
 use Rattle.jose.specs.declared.members.Slot.the-variants.{Absent, Is}
 use Rattle.jose.specs.declared.members.Known.{Known}
-use Rattle.jose_rules.specs.Names.{ascii, alg, kid, HS256}
+use Rattle.common.specs.Ascii.{ascii}
+use Rattle.jose_rules.specs.Names.{alg, kid, HS256}
 use Rattle.jose_rules.specs.Members.{string}
 use Rattle.jose_rules.specs.Only.{given, bind}
 use Rattle.jose_rules.specs.HeaderTests.{reading, headerChoice}
@@ -43,15 +45,15 @@ use Rattle.jose.proofs.SlotLaws.{clash, member, no-member, there-is, st
 -- THE ALGORITHM
 
 pub algorithm-absent : {h : List ℕ} → Stands h alg Absent → false ≡ otherAlgorithm (reading h)
-algorithm-absent w = sym (ap (λ (o : Option Value). given (λ s. not (eqList s HS256)) (bind o string)) (no-member w))
+algorithm-absent w = sym (ap (λ (o : Option Value). given (λ s. not (same s HS256)) (bind o string)) (no-member w))
 
 module _ {h : List ℕ} {k : Kind} {x : Span} (w : Stands h alg (Is k x)) where
   pub algorithm-string : isOf stringK k ≡ true → (t : Bool) → TextIs h (x .start) HS256 t → not t ≡ otherAlgorithm (reading h)
   unfolding isAscii ascii HS256
-  algorithm-string e t c = let s = string-at w e in ap not (text-word HS256 refl h (x .start) t c (s .0) (s .2)) ∙ sym (ap (given (λ s. not (eqList s HS256))) (s .1))
+  algorithm-string e t c = let s = string-at w e in ap not (text-word HS256 refl h (x .start) t c (s .0) (s .2)) ∙ sym (ap (given (λ s. not (same s HS256))) (s .1))
 
   pub algorithm-other : isOf stringK k ≡ false → false ≡ otherAlgorithm (reading h)
-  algorithm-other e = sym (ap (given (λ s. not (eqList s HS256))) (no-string-said w e))
+  algorithm-other e = sym (ap (given (λ s. not (same s HS256))) (no-string-said w e))
 
 -- THE KEY THAT A STRING NAMES
 

@@ -7,7 +7,8 @@ use Prim.Native.Nat.{ℕ, _+_, _-_, _≤_, _<_}
 use native.Mathlib.Omega.{arith}
 use lib.Dec.{eqb}
 use lib.ListN.{length, take, drop}
-use Rattle.json_grammar.specs.Value.{Value, arrayV, LValue, LItem, LItems, LMembers, stringL, numberL, trueL, falseL, nullL, arrayL, objectL, item, named, lnil, lcons, eqList, plain, plainItem, plainItems, plainMembers}
+use Rattle.common.specs.Same.{same}
+use Rattle.json_grammar.specs.Value.{Value, arrayV, LValue, LItem, LItems, LMembers, stringL, numberL, trueL, falseL, nullL, arrayL, objectL, item, named, lnil, lcons, plain, plainItem, plainItems, plainMembers}
 use Rattle.json_grammar.specs.Places.{Kind as Kinds, stringK, numberK, arrayK, kindOf, margin, placed, pos as placeOf}
 use Rattle.json_string.specs.Strings.{NameAt}
 use Rattle.json.specs.declared.places.Kind.{Kind}
@@ -38,7 +39,7 @@ plainOf (some i) = some (plainItem i)
 lookup-item : (n : List ℕ) (ms : LMembers) → lookup n (plainMembers ms) ≡ plainOf (itemOf n ms)
 unfolding lookup itemOf plainMembers
 lookup-item n lnil = refl
-lookup-item n (lcons (named f t m v) ms) = go (eqList m n) (lookup-item n ms)
+lookup-item n (lcons (named f t m v) ms) = go (same m n) (lookup-item n ms)
   where
     go : (b : Bool) → lookup n (plainMembers ms) ≡ plainOf (itemOf n ms)
         → cond b (some (plainItem v)) (lookup n (plainMembers ms)) ≡ plainOf (cond b (some v) (itemOf n ms))
@@ -197,7 +198,7 @@ raw-item : (h n : List ℕ) (s : Slot) (ms : LMembers) → Shows h s (itemOf n m
 unfolding itemOf rawText placed
 raw-item h n Absent lnil w = refl
 raw-item h n (Is k x) lnil w = absurd w
-raw-item h n s (lcons (named f t m (item a b v)) ms) w = go (eqList m n) (raw-item h n s ms) w
+raw-item h n s (lcons (named f t m (item a b v)) ms) w = go (same m n) (raw-item h n s ms) w
   where
     place : (s : Slot) → Shows h s (some (item a b v)) → rawOf s ≡ valuePlace (placed h (named f t m (item a b v)))
     place Absent w = absurd w

@@ -4,7 +4,8 @@ use mathlib.Core.Bool.{Bool, true, false, cond}
 use mathlib.Core.List.{List}
 use mathlib.Core.Option.{Option, none, some}
 use Prim.Native.Nat.{ℕ, _+_}
-use Rattle.json_grammar.specs.Value.{LValue, LItem, LMembers, item, named, lnil, lcons, eqList}
+use Rattle.common.specs.Same.{same}
+use Rattle.json_grammar.specs.Value.{LValue, LItem, LMembers, item, named, lnil, lcons}
 use Rattle.json_string.specs.declared.End.{End}
 use Rattle.json_string.specs.declared.End.the-variants.{At, Bad}
 use Rattle.json_string.specs.Strings.{NameAt, TextIs}
@@ -16,7 +17,8 @@ use Rattle.json.proofs.StepLaws.{first-name}
 use Rattle.jose.specs.declared.members.Slot.{Slot}
 use Rattle.jose.specs.declared.members.Slot.the-variants.{Absent, Is}
 use Rattle.jose.specs.declared.members.Known.{Known}
-use Rattle.jose_rules.specs.Names.{ascii, alg, kid, typ, cty, crit, fmt}
+use Rattle.common.specs.Ascii.{ascii}
+use Rattle.jose_rules.specs.Names.{alg, kid, typ, cty, crit, fmt}
 use Rattle.jose_rules.specs.HeaderTests.{located}
 use Rattle.jose.specs.Slots.{inside, Which, theAlg, theKid, theTyp, theCty, theCrit, theFmt, name, slot, itemOf, Shows, Located, isThere, NoneKnown, takenBy, Taken, Noted, Walked}
 use Rattle.jose.proofs.WordLaws.{isAscii, word-same}
@@ -48,10 +50,10 @@ module _ {h : List ℕ} {p : ℕ} {m : Entry} {old new : Known} where
   unfolding isAscii ascii alg kid typ cty crit fmt
   noted a k t c l f = record { is = go }
     where
-      by : (w : List ℕ) → isAscii w ≡ true → {s r : Slot} → Taken h p m w s r → (cs : List ℕ) → NameAt h (p + 1) cs → r ≡ takenBy (eqList cs w) m s
+      by : (w : List ℕ) → isAscii w ≡ true → {s r : Slot} → Taken h p m w s r → (cs : List ℕ) → NameAt h (p + 1) cs → r ≡ takenBy (same cs w) m s
       by w e {s} t cs n = t .is cs n ∙ ap (λ (q : Bool). takenBy q m s) (word-same w e h (p + 1) cs n)
 
-      go : (cs : List ℕ) → NameAt h (p + 1) cs → (w : Which) → slot w new ≡ takenBy (eqList cs (name w)) m (slot w old)
+      go : (cs : List ℕ) → NameAt h (p + 1) cs → (w : Which) → slot w new ≡ takenBy (same cs (name w)) m (slot w old)
       go cs n theAlg = by alg refl a cs n
       go cs n theKid = by kid refl k cs n
       go cs n theTyp = by typ refl t cs n
@@ -76,9 +78,9 @@ pub record Passed (h n : List ℕ) (s : Slot) (rest ms : LMembers) : Type 0 wher
   pub is : itemOf n ms ≡ earlier shown (itemOf n rest)
 
 module _ {h : List ℕ} (m : Entry) {a b : List ℕ} {v : LValue} (value : ValueIs h inside (m .kind) (m .value) a b v) {n f t c : List ℕ} {rest ms : LMembers} where
-  pass : (s : Slot) → Passed h n s (lcons (named f t c (item a b v)) rest) ms → Passed h n (takenBy (eqList c n) m s) rest ms
+  pass : (s : Slot) → Passed h n s (lcons (named f t c (item a b v)) rest) ms → Passed h n (takenBy (same c n) m s) rest ms
   unfolding itemOf
-  pass s p = go s (p .shown) (p .shows) (eqList c n) (p .is)
+  pass s p = go s (p .shown) (p .shows) (same c n) (p .is)
     where
       go : (s : Slot) (o : Option LItem) → Shows h s o → (q : Bool) → itemOf n ms ≡ earlier o (cond q (some (item a b v)) (itemOf n rest)) → Passed h n (takenBy q m s) rest ms
       go (Is k x) (some i) w q e = record { shown = some i; shows = w; is = e }

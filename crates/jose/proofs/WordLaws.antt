@@ -8,13 +8,12 @@ use lib.Dec.{leb}
 use lib.ListN.{length, drop-of-length-le}
 use Rattle.common.specs.First.{Decides, holds, fails, decides-le, decides-iff, decides-and, decides-bool}
 use Rattle.common.specs.Decided.{decided, when-true}
-use Rattle.json_grammar.specs.Value.{eqList}
+use Rattle.common.specs.Same.{same, decides-same}
 use Rattle.json_grammar.specs.Reader.{got, readChars}
 use Rattle.json_grammar.specs.ReaderLaws.{no-bad}
 use Rattle.json_string.specs.Strings.{NameAt, TextIs}
 use Rattle.json_string.specs.Utf8.{utf8, Scalar, low, Each, none, more}
 use Rattle.json_string.specs.Utf8Laws.{utf8-ascii, utf8-injective, name-scalar}
-use Rattle.jose_rules.specs.Known.{decides-eqList}
 
 -- a string of the header begins within it
 pub name-within : (h : List ℕ) (p : ℕ) (cs : List ℕ) → NameAt h p cs → p ≤ length h
@@ -46,13 +45,13 @@ scalars none = none
 scalars (more {x} l ls) = let k : x ≤ 0xD7FF = omega arith in more (low k) (scalars ls)
 
 -- a string of the header and a word of ASCII are compared by code points
-pub word-same : (w : List ℕ) → isAscii w ≡ true → (h : List ℕ) (p : ℕ) (cs : List ℕ) → NameAt h p cs → eqList (utf8 cs) w ≡ eqList cs w
+pub word-same : (w : List ℕ) → isAscii w ≡ true → (h : List ℕ) (p : ℕ) (cs : List ℕ) → NameAt h p cs → same (utf8 cs) w ≡ same cs w
 word-same w e h p cs a =
     let small = ascii w e in
     decided
-    (decides-iff (λ q. utf8-injective (name-scalar h p cs a) (scalars small) (q ∙ sym (utf8-ascii small))) (λ q. ap utf8 q ∙ utf8-ascii small) (decides-eqList (utf8 cs) w))
-    (decides-eqList cs w)
+    (decides-iff (λ q. utf8-injective (name-scalar h p cs a) (scalars small) (q ∙ sym (utf8-ascii small))) (λ q. ap utf8 q ∙ utf8-ascii small) (decides-same (utf8 cs) w))
+    (decides-same cs w)
 
-pub text-word : (w : List ℕ) → isAscii w ≡ true → (h : List ℕ) (p : ℕ) (r : Bool) → TextIs h p w r → (cs : List ℕ) → NameAt h p cs → r ≡ eqList cs w
+pub text-word : (w : List ℕ) → isAscii w ≡ true → (h : List ℕ) (p : ℕ) (r : Bool) → TextIs h p w r → (cs : List ℕ) → NameAt h p cs → r ≡ same cs w
 unfolding TextIs
 text-word w e h p r t cs a = t cs a ∙ word-same w e h p cs a

@@ -8,7 +8,8 @@ use lib.Dec.{eqb}
 use lib.IntN.{ℤ, pos, natAbs}
 use lib.Signed.{ltZ}
 use Rattle.common.specs.First.{Test, _when_, first}
-use Rattle.json_grammar.specs.Value.{Members, LItem, LItems, LMembers, item, named, lnil, lcons, plainItems, eqList}
+use Rattle.common.specs.Same.{same}
+use Rattle.json_grammar.specs.Value.{Members, LItem, LItems, LMembers, item, named, lnil, lcons, plainItems}
 use Rattle.json_grammar.specs.Places.{Kind as Kinds, stringK}
 use Rattle.json_string.specs.Strings.{NameAt}
 use Rattle.json_string.specs.Utf8.{utf8}
@@ -63,7 +64,7 @@ slot theFmt m = m .fmt
 -- the value of the first member with the name n, with its places
 unfoldable pub itemOf : List ℕ → LMembers → Option LItem
 itemOf n lnil = none
-itemOf n (lcons (named f t m v) ms) = cond (eqList m n) (some v) (itemOf n ms)
+itemOf n (lcons (named f t m v) ms) = cond (same m n) (some v) (itemOf n ms)
 
 -- the slot has the kind and the place of the value
 abbrev pub Shows : List ℕ → Slot → Option LItem → Type 0
@@ -115,10 +116,10 @@ takenBy false m Absent = Absent
 
 -- .. whose name stands past p, and which goes by the word w
 pub record Taken (h : List ℕ) (p : ℕ) (m : Entry) (w : List ℕ) (old new : Slot) : Type 0 where
-  pub is : (cs : List ℕ) → NameAt h (p + 1) cs → new ≡ takenBy (eqList (utf8 cs) w) m old
+  pub is : (cs : List ℕ) → NameAt h (p + 1) cs → new ≡ takenBy (same (utf8 cs) w) m old
 
 pub record Noted (h : List ℕ) (p : ℕ) (m : Entry) (old new : Known) : Type 0 where
-  pub is : (cs : List ℕ) → NameAt h (p + 1) cs → (w : Which) → slot w new ≡ takenBy (eqList cs (name w)) m (slot w old)
+  pub is : (cs : List ℕ) → NameAt h (p + 1) cs → (w : Which) → slot w new ≡ takenBy (same cs (name w)) m (slot w old)
 
 -- each slot shows its member among the members at p
 pub record Walked (h : List ℕ) (p : ℕ) (m : Known) : Type 0 where
@@ -133,7 +134,7 @@ pub record StringsFrom (h : List ℕ) (p : ℕ) (r : Bool) : Type 0 where
 -- the one name is `fmt`
 unfoldable pub formatAlone : List (List ℕ) → Bool
 formatAlone [] = false
-formatAlone (n ∷ []) = eqList n fmt
+formatAlone (n ∷ []) = same n fmt
 formatAlone (n ∷ m ∷ ns) = false
 
 -- THE KEY AND THE FORMAT
@@ -158,7 +159,7 @@ choiceBy m i f = record { index = i; named = isThere (m .kid); format = f; typ =
 
 -- `alg` is a string other than `HS256`
 abbrev pub otherAlgorithm : Members → Bool
-otherAlgorithm ms = given (λ s. not (eqList s HS256)) (said string alg ms)
+otherAlgorithm ms = given (λ s. not (same s HS256)) (said string alg ms)
 
 abbrev pub memberTests : Members → List Test
 memberTests ms = 9 when missingOrWrong ms ∷ 10 when criticalBroken ms ∷ 11 when otherAlgorithm ms ∷ []

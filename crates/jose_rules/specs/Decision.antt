@@ -13,7 +13,7 @@ use Rattle.jose_rules.specs.declared.Decision.the-variants.{Refused, Cho
 use Rattle.jose_rules.specs.Header.{HeaderChoice}
 use Rattle.jose_rules.specs.HeaderTests.{headingTests, headerChoice}
 
--- the paper's values of a choice: the key's index, whether `kid` was there, the format, and the raw texts of `typ` and `cty`
+-- the specification's values of a choice: the key's index, whether `kid` was there, the format, and the raw texts of `typ` and `cty`
 abbrev pub choiceOf : HeaderChoice → Choice
 choiceOf c = record { index = c .choice .index; named = c .choice .named; format = c .choice .format; typ = c .typ; cty = c .cty }
 

@@ -7,7 +7,8 @@ use Prim.Native.Nat.{ℕ, _≤_}
 use Rattle.common.specs.Bytes.{Bytes}
 use Rattle.common.specs.First.{Rule, _on_, Test, NoneOf, condition, Decides, holds, fails, Agree, done, _by_, decides-not, decides-bool, decides-iff, stable, agree-append, _also_, none-left, none-right}
 use Rattle.common.specs.Decided.{when-false, test-false}
-use Rattle.json_grammar.specs.Value.{Value, Members, objectV, twice, twiceMembers, among, repeated, names, eqList, LMembers, named, lnil, lcons, plainItem, plainMembers}
+use Rattle.common.specs.Same.{same, decides-same}
+use Rattle.json_grammar.specs.Value.{Value, Members, objectV, twice, twiceMembers, among, repeated, names, LMembers, named, lnil, lcons, plainItem, plainMembers}
 use Rattle.json_grammar.specs.Places.{placed}
 use Rattle.json_grammar.specs.Grammar.{Derivation, bytes, readingOf, depthOf, membersOf}
 use Rattle.json_grammar.specs.Reader.{read}
@@ -24,7 +25,7 @@ use Rattle.jose_rules.specs.Names.{typ, cty}
 use Rattle.jose_rules.specs.Members.{Has}
 use Rattle.jose_rules.specs.Rules.{known}
 use Rattle.jose_rules.specs.Tests.{knownTests}
-use Rattle.jose_rules.specs.Known.{known-agree, chooses, chooses-one, or-false, decides-eqList, decides-among}
+use Rattle.jose_rules.specs.Known.{known-agree, chooses, chooses-one, or-false, decides-among}
 use Rattle.jose_rules.specs.Header.{ofReading, grammar, heading, nameOf, valuePlace, ValueAt, RawText, HeaderChoice, HeaderChooses}
 use Rattle.jose_rules.specs.HeaderTests.{located, reading, grammarTests, headingTests, rawText, headerChoice}
 
@@ -96,7 +97,7 @@ once-names ms e = or-false (repeated (names ms)) (twiceMembers ms) e .0
 raw-text : (h n : List ℕ) (ms : LMembers) → RawText h n ms (rawText h n ms)
 unfolding rawText
 raw-text h n lnil = inr ((λ q w. w), refl)
-raw-text h n (lcons m ms) = go (eqList (nameOf m) n) (decides-eqList (nameOf m) n) (rawText h n ms) (raw-text h n ms)
+raw-text h n (lcons m ms) = go (same (nameOf m) n) (decides-same (nameOf m) n) (rawText h n ms) (raw-text h n ms)
   where
     go : (b : Bool) → Decides (nameOf m ≡ n) b → (p : Place) → RawText h n ms p → RawText h n (lcons m ms) (cond b (valuePlace (placed h m)) p)
     go true (holds e) p r = inl (inl (e, refl))
@@ -114,7 +115,7 @@ raw-one h n lnil u p (inl v) = absurd v
 raw-one h n lnil u p (inr w) = w .1
 raw-one h n (lcons (named f t m v) ms) u p r =
     let o = or-false (among m (names (plainMembers ms))) (repeated (names (plainMembers ms))) u in
-    go (eqList m n) (decides-eqList m n) (when-false (decides-among m (plainMembers ms)) (o .0)) (raw-one h n ms (o .1) p) r
+    go (same m n) (decides-same m n) (when-false (decides-among m (plainMembers ms)) (o .0)) (raw-one h n ms (o .1) p) r
   where
     go : (b : Bool) → Decides (m ≡ n) b → ((x : Value) × Has m x (plainMembers ms) → ⊥) → (RawText h n ms p → p ≡ rawText h n ms)
         → RawText h n (lcons (named f t m v) ms) p → p ≡ cond b (valuePlace (placed h (named f t m v))) (rawText h n ms)

@@ -3,7 +3,8 @@ use mathlib.Core.Bool.{cond, not}
 use mathlib.Core.List.{List, [], _∷_, _++_}
 use Prim.Native.Nat.{ℕ}
 use Rattle.common.specs.First.{Test, _when_}
-use Rattle.json_grammar.specs.Value.{Members, eqList, LMembers, lnil, lcons, plainMembers}
+use Rattle.common.specs.Same.{same}
+use Rattle.json_grammar.specs.Value.{Members, LMembers, lnil, lcons, plainMembers}
 use Rattle.json_grammar.specs.Places.{placed}
 use Rattle.json_grammar.specs.Reader.{read}
 use Rattle.json_grammar.specs.Unique.{isGot}
@@ -30,7 +31,7 @@ headingTests h ks = grammarTests h ++ knownTests (reading h) ks
 -- the place of the value of the first member with the name n
 unfoldable pub rawText : List ℕ → List ℕ → LMembers → Place
 rawText h n lnil = nowhere
-rawText h n (lcons m ms) = cond (eqList (nameOf m) n) (valuePlace (placed h m)) (rawText h n ms)
+rawText h n (lcons m ms) = cond (same (nameOf m) n) (valuePlace (placed h m)) (rawText h n ms)
 
 unfoldable pub headerChoice : List ℕ → List Key → HeaderChoice
 headerChoice h ks = record { choice = choice (reading h) ks; typ = rawText h typ (located h); cty = rawText h cty (located h) }

@@ -1,7 +1,7 @@
 -- The tests decide the conditions: the answer is the first of 9 to 14 that holds, and where none does, what is chosen is the only choice.
 use mathlib.Core.Path.{_≡_, refl, sym, ap}
 use mathlib.Core.Logic.{_↔_, _⊎_, inl, inr, ⊎-elim}
-use mathlib.Core.Bool.{Bool, true, false, cond, not, _&&_, _||_}
+use mathlib.Core.Bool.{Bool, true, false, cond, not, _||_}
 use mathlib.Core.List.{List, [], _∷_}
 use mathlib.Core.Option.{Option, none, some}
 use Prim.Native.Nat.{ℕ}
@@ -11,7 +11,7 @@ use lib.IntN.{ℤ, pos, negsuc, natAbs}
 use lib.Signed.{ltZ, _<ℤ_}
 use lib.ListN.{length}
 use Rattle.common.specs.First.{Decides, holds, fails, Agree, done, _by_, decides-or, decides-not, decides-iff, decides-bool, decides-eq, among, numbers, condition, earlier, NoneOf, first, first-stands, none-stands}
-use Rattle.json_grammar.specs.Value.{Value, Members, objectV, mnil, mcons, twice, twiceMembers, eqList, among as amongNames, repeated, names}
+use Rattle.json_grammar.specs.Value.{Value, Members, objectV, mnil, mcons, twice, twiceMembers, among as amongNames, repeated, names}
 use Rattle.json_string.specs.Utf8.{utf8}
 use Rattle.keytable.specs.declared.Found.{Found}
 use Rattle.keytable.specs.declared.Found.the-variants.{At, Nothing}
@@ -25,17 +25,6 @@ use Rattle.jose_rules.specs.Rules.{MissingOrWrong, Listed, CriticalBroke
 use Rattle.jose_rules.specs.Only.{Only, nothing, just, absent, orElse, decides-none, decides-some, decides-absent, decides-there, only-there, only-is, only-content, only-bind, only-or}
 use Rattle.jose_rules.specs.Tests.{lookup, said, wrong, anyOf, empty, listed, missingOrWrong, criticalBroken, indexOf, chosen, format, lacking, knownTests, choice}
 
--- Names.
-eqList-same : (a b : List ℕ) → eqList a b ≡ same a b
-unfolding eqList same
-eqList-same [] [] = refl
-eqList-same [] (y ∷ ys) = refl
-eqList-same (x ∷ xs) [] = refl
-eqList-same (x ∷ xs) (y ∷ ys) = ap (λ b. eqb x y && b) (eqList-same xs ys)
-
-pub decides-eqList : (a b : List ℕ) → Decides (a ≡ b) (eqList a b)
-decides-eqList a b = rw (eqList-same a b) (decides-same a b)
-
 pub or-false : (a b : Bool) → a || b ≡ false → (a ≡ false) × (b ≡ false)
 or-false true b e = let z : _≡_ {A = ℕ} 0 1 = cc in absurd (omega arith)
 or-false false b e = (refl, e)
@@ -43,7 +32,7 @@ or-false false b e = (refl, e)
 pub decides-among : (n : List ℕ) (ms : Members) → Decides ((v : Value) × Has n v ms) (amongNames n (names ms))
 unfolding amongNames names
 decides-among n mnil = fails (λ h. h .1)
-decides-among n (mcons m w ms) = decides-iff there back (decides-or (decides-eqList n m) (decides-among n ms))
+decides-among n (mcons m w ms) = decides-iff there back (decides-or (decides-same n m) (decides-among n ms))
   where
     there : (n ≡ m) ⊎ ((v : Value) × Has n v ms) → (v : Value) × Has n v (mcons m w ms)
     there (inl e) = (w, inl (sym e, refl))
@@ -59,7 +48,7 @@ unfolding lookup repeated names
 looked n mnil e = nothing (λ v h. h)
 looked n (mcons m w ms) e =
     let f = or-false (amongNames m (names ms)) (repeated (names ms)) e in
-    go (eqList m n) (decides-eqList m n) (when-false (decides-among m ms) (f .0)) (lookup n ms) (looked n ms (f .1))
+    go (same m n) (decides-same m n) (when-false (decides-among m ms) (f .0)) (lookup n ms) (looked n ms (f .1))
   where
     go : (b : Bool) → Decides (m ≡ n) b → ((v : Value) × Has m v ms → ⊥) → (o : Option Value) → Only (λ v. Has n v ms) o
         → Only (λ v. Has n v (mcons m w ms)) (cond b (some w) o)
@@ -131,7 +120,7 @@ module _ (ms : Members) (unique : repeated (names ms) ≡ false) where
 
   decides-listed : (n : List ℕ) → Decides (Listed n ms) (listed n ms)
   unfolding listed
-  decides-listed n = decides-some (only-said strings crit) (decides-any (λ m. decides-eqList m n))
+  decides-listed n = decides-some (only-said strings crit) (decides-any (λ m. decides-same m n))
 
   decides-10 : Decides (CriticalBroken ms) (criticalBroken ms)
   unfolding criticalBroken
@@ -139,7 +128,7 @@ module _ (ms : Members) (unique : repeated (names ms) ≡ false) where
       decides-or
       (decides-some (only-said strings crit) (λ ns.
       decides-or (decides-empty ns) (decides-or (decides-bool (repeated ns))
-      (decides-or (decides-any (λ n. decides-not (decides-eqList n fmt)) ns) (decides-any decides-lacks ns)))))
+      (decides-or (decides-any (λ n. decides-not (decides-same n fmt)) ns) (decides-any decides-lacks ns)))))
       (decides-some (looked fmt ms unique) (λ v. decides-not (decides-listed fmt)))
 
   only-format : Only (Format ms) (format ms)
@@ -166,7 +155,7 @@ module _ (ms : Members) (unique : repeated (names ms) ≡ false) where
     known-agree =
         decides-9
         by λ _. decides-10
-        by λ _. decides-some (only-said string alg) (λ s. decides-not (decides-eqList s HS256))
+        by λ _. decides-some (only-said string alg) (λ s. decides-not (decides-same s HS256))
         by λ _. decides-none only-chosen
         by λ _. decides-some only-chosen (λ i. decides-false (allowsHS256 (key ks i)))
         by λ _. decides-some only-chosen (λ i. decides-some only-format (decides-lacking (key ks i)))

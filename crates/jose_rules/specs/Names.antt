@@ -1,12 +1,7 @@
 -- The known members' names (RFC 7515 section 4.1; `fmt` is the house's) and the one algorithm's, as code points.
 use mathlib.Core.List.{List, [], _∷_}
 use Prim.Native.Nat.{ℕ}
-use Prim.Native.Char.{code}
-use Prim.Native.String.{String, [] as end, _∷_ as _and_}
-
-unfoldable pub ascii : String → List ℕ
-ascii end = []
-ascii (_and_ c s) = code c ∷ ascii s
+use Rattle.common.specs.Ascii.{ascii}
 
 unfoldable pub alg : List ℕ
 alg = ascii "alg"

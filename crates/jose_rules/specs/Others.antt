@@ -5,26 +5,28 @@ use mathlib.Core.List.{List, [], _∷_}
 use mathlib.Core.Option.{Option, none, some}
 use Prim.Native.Nat.{ℕ}
 use Rattle.common.specs.First.{Decides, holds, fails}
-use Rattle.json_grammar.specs.Value.{Members, mnil, mcons, eqList, among, repeated}
+use Rattle.common.specs.Same.{same, decides-same}
+use Rattle.json_grammar.specs.Value.{Members, mnil, mcons, among, repeated}
 use Rattle.keytable.specs.Key.{Key}
-use Rattle.jose_rules.specs.Names.{ascii, alg, kid, typ, cty, crit, fmt, knownNames}
+use Rattle.common.specs.Ascii.{ascii}
+use Rattle.jose_rules.specs.Names.{alg, kid, typ, cty, crit, fmt, knownNames}
 use Rattle.jose_rules.specs.Members.{strings}
 use Rattle.jose_rules.specs.Only.{absent, given}
 use Rattle.jose_rules.specs.Tests.{lookup, said, anyOf, empty, listed, missingOrWrong, criticalBroken, chosen, format, knownTests, choice}
-use Rattle.jose_rules.specs.Known.{decides-eqList, or-false}
+use Rattle.jose_rules.specs.Known.{or-false}
 
 -- the members whose name isn't n
 unfoldable pub without : List ℕ → Members → Members
 without n mnil = mnil
-without n (mcons m v ms) = cond (eqList m n) (without n ms) (mcons m v (without n ms))
+without n (mcons m v ms) = cond (same m n) (without n ms) (mcons m v (without n ms))
 
-lookup-without : (n x : List ℕ) → eqList n x ≡ false → (ms : Members) → lookup x (without n ms) ≡ lookup x ms
+lookup-without : (n x : List ℕ) → same n x ≡ false → (ms : Members) → lookup x (without n ms) ≡ lookup x ms
 unfolding lookup without
 lookup-without n x d mnil = refl
-lookup-without n x d (mcons m v ms) = go (eqList m n) (decides-eqList m n) (lookup-without n x d ms)
+lookup-without n x d (mcons m v ms) = go (same m n) (decides-same m n) (lookup-without n x d ms)
   where
     go : (b : Bool) → Decides (m ≡ n) b → lookup x (without n ms) ≡ lookup x ms
-        → lookup x (cond b (without n ms) (mcons m v (without n ms))) ≡ cond (eqList m x) (some v) (lookup x ms)
+        → lookup x (cond b (without n ms) (mcons m v (without n ms))) ≡ cond (same m x) (some v) (lookup x ms)
     go true (holds e) ih = rw (e, d) ih
     go false (fails e) ih = rw ih
 
@@ -35,10 +37,10 @@ given-same h (some a) = h a
 module _ (ms ms′ : Members) where
   -- a name that `crit` may list is `fmt`, so that only `fmt` is looked for
   lacks-same : lookup fmt ms ≡ lookup fmt ms′ → (ns : List (List ℕ))
-      → anyOf (λ n. not (eqList n fmt)) ns || anyOf (λ n. absent (lookup n ms)) ns ≡ anyOf (λ n. not (eqList n fmt)) ns || anyOf (λ n. absent (lookup n ms′)) ns
+      → anyOf (λ n. not (same n fmt)) ns || anyOf (λ n. absent (lookup n ms)) ns ≡ anyOf (λ n. not (same n fmt)) ns || anyOf (λ n. absent (lookup n ms′)) ns
   unfolding anyOf
   lacks-same f [] = refl
-  lacks-same f (n ∷ ns) = go (eqList n fmt) (decides-eqList n fmt) (anyOf (λ n. not (eqList n fmt)) ns) (lacks-same f ns)
+  lacks-same f (n ∷ ns) = go (same n fmt) (decides-same n fmt) (anyOf (λ n. not (same n fmt)) ns) (lacks-same f ns)
     where
       go : (q : Bool) → Decides (n ≡ fmt) q → (a : Bool) → a || anyOf (λ n. absent (lookup n ms)) ns ≡ a || anyOf (λ n. absent (lookup n ms′)) ns
           → (not q || a) || (absent (lookup n ms) || anyOf (λ n. absent (lookup n ms)) ns) ≡ (not q || a) || (absent (lookup n ms′) || anyOf (λ n. absent (lookup n ms′)) ns)
@@ -74,5 +76,5 @@ unknown-ignored n new ms ks =
 
 -- .. and these are such names
 pub five-unknown : anyOf (λ n. among n knownNames) (ascii "jku" ∷ ascii "jwk" ∷ ascii "x5u" ∷ ascii "x5t" ∷ ascii "x5c" ∷ []) ≡ false
-unfolding anyOf among eqList ascii alg kid typ cty crit fmt
+unfolding anyOf among same ascii alg kid typ cty crit fmt
 five-unknown = refl

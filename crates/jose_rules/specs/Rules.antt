@@ -1,4 +1,4 @@
--- The conditions of answers 9 to 14, over a reading's members and a list of keys, each in the paper's words under its number.
+-- The conditions of answers 9 to 14, over a reading's members and a list of keys, each in the specification's words under its number.
 use mathlib.Core.Path.{_≡_}
 use mathlib.Core.Logic.{_⊎_}
 use mathlib.Core.Bool.{Bool, true, false}

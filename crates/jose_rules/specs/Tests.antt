@@ -6,7 +6,8 @@ use Prim.Native.Nat.{ℕ}
 use lib.IntN.{ℤ, pos, natAbs}
 use lib.Signed.{ltZ}
 use Rattle.common.specs.First.{Test, _when_}
-use Rattle.json_grammar.specs.Value.{Value, Members, mnil, mcons, eqList, repeated}
+use Rattle.common.specs.Same.{same}
+use Rattle.json_grammar.specs.Value.{Value, Members, mnil, mcons, repeated}
 use Rattle.json_string.specs.Utf8.{utf8}
 use Rattle.keytable.specs.declared.Found.{Found}
 use Rattle.keytable.specs.declared.Found.the-variants.{At, Nothing}
@@ -19,7 +20,7 @@ use Rattle.jose_rules.specs.Only.{absent, given, bind, orElse}
 -- the value of the first member with the name n
 unfoldable pub lookup : List ℕ → Members → Option Value
 lookup n mnil = none
-lookup n (mcons m v ms) = cond (eqList m n) (some v) (lookup n ms)
+lookup n (mcons m v ms) = cond (same m n) (some v) (lookup n ms)
 
 module _ {A : Type 0} (k : Kind A) (n : List ℕ) (ms : Members) where
   abbrev pub said : Option A
@@ -43,11 +44,11 @@ empty [] = true
 empty (n ∷ ns) = false
 
 unfoldable pub listed : List ℕ → Members → Bool
-listed n ms = given (λ ns. anyOf (λ m. eqList m n) ns) (said strings crit ms)
+listed n ms = given (λ ns. anyOf (λ m. same m n) ns) (said strings crit ms)
 
 unfoldable pub criticalBroken : Members → Bool
 criticalBroken ms =
-    given (λ ns. empty ns || (repeated ns || (anyOf (λ n. not (eqList n fmt)) ns || anyOf (λ n. absent (lookup n ms)) ns))) (said strings crit ms)
+    given (λ ns. empty ns || (repeated ns || (anyOf (λ n. not (same n fmt)) ns || anyOf (λ n. absent (lookup n ms)) ns))) (said strings crit ms)
     || given (λ v. not (listed fmt ms)) (lookup fmt ms)
 
 abbrev pub indexOf : Found → Option ℕ
@@ -67,7 +68,7 @@ abbrev pub knownTests : Members → List Key → List Test
 knownTests ms ks =
     9 when missingOrWrong ms
     ∷ 10 when criticalBroken ms
-    ∷ 11 when given (λ s. not (eqList s HS256)) (said string alg ms)
+    ∷ 11 when given (λ s. not (same s HS256)) (said string alg ms)
     ∷ 12 when absent (chosen ms ks)
     ∷ 13 when given (λ i. not (allowsHS256 (key ks i))) (chosen ms ks)
     ∷ 14 when given (λ i. given (lacking (key ks i)) (format ms)) (chosen ms ks)

@@ -4,20 +4,18 @@ use mathlib.Core.Bool.{Bool, true, false, not}
 use mathlib.Core.List.{List, [], _∷_}
 use Prim.Native.Nat.{ℕ, zero, suc, _+_, _-_, _≤_, _<_}
 use native.Mathlib.Omega.{arith}
-use lib.Dec.{ltb}
 use lib.ListN.{length, drop, getD, length-drop, drop-of-length-le}
 use borrow.Author.Tests.{lt-ltb, le-ltb}
-use Rattle.common.specs.First.{Test, _when_, first}
-use Rattle.json_grammar.specs.Value.{LValue, LItem, LMembers, item, named, lnil, lcons, plain, plainMembers, objectV, twice}
-use Rattle.json_grammar.specs.Places.{Kind, kindOf, margin, pos, placed, Found, no-member, found, member}
-use Rattle.json_grammar.specs.Reader.{Got, bad, got, then, expect, ws, readObject, ends-by, read}
-use Rattle.json_grammar.specs.ReaderLaws.{no-bad, then-inv, expect-inv}
+use Rattle.common.specs.First.{_when_, first}
+use Rattle.json_grammar.specs.Value.{LMembers, item, named, lnil, lcons, plain}
+use Rattle.json_grammar.specs.Places.{Kind, kindOf, placed, member}
+use Rattle.json_grammar.specs.Reader.{Got, got, readObject, read}
+use Rattle.json_grammar.specs.ReaderLaws.{read-inv}
 use Rattle.json_grammar.specs.ScanLaws.{scan-read}
 use Rattle.json_string.specs.declared.End.{End}
 use Rattle.json_string.specs.declared.End.the-variants.{At, Bad}
 use Rattle.json_string.specs.Ends.{at-byte}
 use Rattle.json_reader.specs.Contracts.{SkipsTo, isText}
-use Rattle.json.specs.declared.places.Place.{Place}
 use Rattle.json.specs.declared.steps.Entry.{Entry}
 use Rattle.json.specs.declared.places.Member.{Member}
 use Rattle.json.specs.declared.places.Member.the-variants.{Refused}
@@ -56,33 +54,24 @@ module _ (h : List ℕ) (k : length h ≤ longest) where
 
 -- THE TOP OBJECT
 
-ends-same : (ns : LMembers) (y : List ℕ) (ms : LMembers) (x : List ℕ) → ends-by ns y ≡ got ms x → ns ≡ ms
-ends-same ns [] ms x e = cc
-ends-same ns (b ∷ y) ms x e = no-bad e
-
 module _ {h : List ℕ} {at : ℕ} (w : SkipsTo h 0 at) where
   pub top-is : {r : End} → at < length h → FirstMember h at r → TopMembers h r
-  unfolding read
   top-is {r} k f = record {
     within = f .within;
     is = λ d ms x e.
-        let i = expect-inv 0x7B (ws h) (λ y. then (readObject (length h) d y) (λ ns z. ends-by ns (ws z))) ms x e in
-        let j = then-inv (readObject (length h) d (i .0)) (λ ns z. ends-by ns (ws z)) ms x (i .2) in
-        let tail-is : 0x7B ∷ i .0 ≡ getD h at 0 ∷ drop (at + 1) h = sym (i .1) ∙ w .is ∙ at-byte h at k in
+        let i = read-inv d h ms x e in
+        let tail-is : 0x7B ∷ i .0 ≡ getD h at 0 ∷ drop (at + 1) h = sym (i .2) ∙ w .is ∙ at-byte h at k in
         let y-is : i .0 ≡ drop (at + 1) h = cc in
-        f .is d ms (record {
-          fuel = length h;
-          enough = omega (arith, length-drop (at + 1) h);
-          left = j .1;
-          reads = ap (readObject (length h) d) (sym y-is) ∙ j .2 ∙ ap (λ (ns : LMembers). got ns (j .1)) (ends-same (j .0) (ws (j .1)) ms x (j .3));
-        });
+        f .is d ms (record { fuel = length h; enough = omega (arith, length-drop (at + 1) h); left = i .1; reads = ap (readObject (length h) d) (sym y-is) ∙ i .3 });
   }
 
   pub top-out : length h ≤ at → TopMembers h Bad
-  unfolding read
   top-out k = record {
     within = λ p e. never e;
-    is = λ d ms x e. no-bad (sym (ap (λ (y : List ℕ). expect 0x7B y (λ z. then (readObject (length h) d z) (λ ns u. ends-by ns (ws u)))) (w .is ∙ drop-of-length-le h k)) ∙ e);
+    is = λ d ms x e.
+        let i = read-inv d h ms x e in
+        let z : 0x7B ∷ i .0 ≡ [] = sym (i .2) ∙ w .is ∙ drop-of-length-le h k in
+        absurd (let z : _≡_ {A = ℕ} 0 1 = cc in omega arith);
   }
 
 -- a callee's contract at the answer that it gave

@@ -1,6 +1,6 @@
 -- Names that stand twice: a law for each way through each function.
 use mathlib.Core.Path.{_≡_, refl, sym, ap, ap₂, _∙_, subst}
-use mathlib.Core.Bool.{Bool, true, false, _&&_, _||_}
+use mathlib.Core.Bool.{Bool, true, false, _||_}
 use mathlib.Core.List.{List, [], _∷_}
 use Prim.Native.Nat.{ℕ, zero, suc, _+_, _-_, _≤_, _<_}
 use native.Mathlib.Omega.{arith}
@@ -8,9 +8,10 @@ use native.Mathlib.Numerals.{add-one}
 use lib.Dec.{eqb}
 use lib.ListN.{length, drop, getD, set, drop-of-length-le}
 use lib.Seq.{getD-set-same, getD-set-other}
-use borrow.Author.Tests.{eqb-true, eqb-false, eq-eqb, ne-eqb}
-use Rattle.json_grammar.specs.Value.{eqList, among, repeated, names, LItem, LMembers, item, named, lnil, lcons, plain, plainMembers}
-use Rattle.json_grammar.specs.Reader.{Got, bad, got, ws, readChars}
+use borrow.Author.Tests.{eqb-true, eqb-false, ne-eqb}
+use Rattle.common.specs.Same.{same, same-sym}
+use Rattle.json_grammar.specs.Value.{among, repeated, names, LMembers, item, named, lnil, lcons, plain}
+use Rattle.json_grammar.specs.Reader.{Got, bad, got, readChars}
 use Rattle.json_grammar.specs.Scan.{namesTwice, scan-string, scan}
 use Rattle.json_string.specs.declared.End.{End}
 use Rattle.json_string.specs.declared.End.the-variants.{At, Bad}
@@ -22,7 +23,7 @@ use Rattle.json.specs.declared.steps.Entry.{Entry}
 use Rattle.json.specs.declared.names.Search.{Search}
 use Rattle.json.specs.declared.names.Search.the-variants.{Twice, Past}
 use Rattle.json.specs.Members.{MembersAt, MembersFrom, EntryAt}
-use Rattle.json.specs.Twice.{namesOf, NamesTwice, Block, empty, one-more, crosses, Meets, Says, Searched, ObjectTwice, TwiceFrom}
+use Rattle.json.specs.Twice.{namesOf, NamesTwice, Block, empty, one-more, crosses, Meets, Searched, ObjectTwice, TwiceFrom}
 use Rattle.json.specs.MemberLaws.{no-members}
 use Rattle.json.proofs.StepLaws.{first-name}
 
@@ -43,20 +44,6 @@ or-swap true false false d = refl
 or-swap false true c d = refl
 or-swap false false c d = refl
 
-eqb-sym : (x y : ℕ) → eqb x y ≡ eqb y x
-eqb-sym x y = go (eqb x y) refl
-  where
-    go : (t : Bool) → eqb x y ≡ t → t ≡ eqb y x
-    go true e = sym (eq-eqb y x (sym (eqb-true x y e)))
-    go false e = sym (ne-eqb y x (λ k. eqb-false x y e (sym k)))
-
-eqList-sym : (xs ys : List ℕ) → eqList xs ys ≡ eqList ys xs
-unfolding eqList
-eqList-sym [] [] = refl
-eqList-sym [] (y ∷ ys) = refl
-eqList-sym (x ∷ xs) [] = refl
-eqList-sym (x ∷ xs) (y ∷ ys) = ap₂ _&&_ (eqb-sym x y) (eqList-sym xs ys)
-
 crosses-none : (ys : List (List ℕ)) → crosses [] ys ≡ false
 unfolding crosses among
 crosses-none [] = refl
@@ -66,9 +53,9 @@ crosses-more : (n : List ℕ) (b ys : List (List ℕ)) → crosses (n ∷ b) ys 
 unfolding crosses among
 crosses-more n b [] = refl
 crosses-more n b (y ∷ ys) =
-    ap (λ (t : Bool). (eqList y n || among y b) || t) (crosses-more n b ys)
-    ∙ or-swap (eqList y n) (among y b) (crosses b ys) (among n ys)
-    ∙ ap (λ (t : Bool). (among y b || crosses b ys) || (t || among n ys)) (eqList-sym y n)
+    ap (λ (t : Bool). (same y n || among y b) || t) (crosses-more n b ys)
+    ∙ or-swap (same y n) (among y b) (crosses b ys) (among n ys)
+    ∙ ap (λ (t : Bool). (among y b || crosses b ys) || (t || among n ys)) (same-sym y n)
 
 -- a name that the block hasn't joins it
 joins : (n : List ℕ) (b ys : List (List ℕ)) → among n b ≡ false → crosses b (n ∷ ys) || repeated (n ∷ ys) ≡ crosses (n ∷ b) ys || repeated ys
@@ -119,9 +106,9 @@ module _ {s a : List ℕ} where
   found empty i q l n h t = absurd (omega arith)
   found (one-more {k = k} {n = m} {b = b} x y) i q l n h t = go (eqb i k) refl (λ j. found y i q j n h t)
     where
-      go : (e : Bool) → eqb i k ≡ e → (i < k → among n b ≡ true) → eqList n m || among n b ≡ true
+      go : (e : Bool) → eqb i k ≡ e → (i < k → among n b ≡ true) → same n m || among n b ≡ true
       go true e ih = ap (λ (z : Bool). z || among n b) (sym (t n m h (subst (λ (j : ℕ). NameAt s (getD a j 0) m) (sym (eqb-true i k e)) x)))
-      go false e ih = let z = eqb-false i k e in or-true (eqList n m) (among n b) (ih (omega arith))
+      go false e ih = let z = eqb-false i k e in or-true (same n m) (among n b) (ih (omega arith))
 
   -- a place past the block may be set
   kept : {k : ℕ} {b : List (List ℕ)} → Block s a k b → (j v : ℕ) → k ≤ j → Block s (set a j v) k b
@@ -136,7 +123,7 @@ pub record Filled (s : List ℕ) (d : ℕ) (a : List ℕ) (k p : ℕ) (ms : LMem
   pub stands : Block s a k block
   pub rest : LMembers
   pub here : MembersAt s p d rest
-  pub same : repeated (namesOf ms) ≡ crosses block (namesOf rest) || repeated (namesOf rest)
+  pub agrees : repeated (namesOf ms) ≡ crosses block (namesOf rest) || repeated (namesOf rest)
 
 pub record Filling (s : List ℕ) (d from : ℕ) (a : List ℕ) (k p : ℕ) : Type 0 where
   pub low : from + k ≤ p
@@ -149,7 +136,7 @@ filling-start {s} {from} d a h = record {
   low = omega arith;
   high = h;
   places = λ i l. absurd (omega arith);
-  is = λ ms m. record { block = []; stands = empty; rest = ms; here = m; same = sym (ap (λ (t : Bool). t || repeated (namesOf ms)) (crosses-none (namesOf ms))) };
+  is = λ ms m. record { block = []; stands = empty; rest = ms; here = m; agrees = sym (ap (λ (t : Bool). t || repeated (namesOf ms)) (crosses-none (namesOf ms))) };
 }
 
 pub full : {s : List ℕ} {d from : ℕ} {a : List ℕ} {k j p : ℕ} → k ≡ j → Filling s d from a k p → Filling s d from a j p
@@ -163,7 +150,7 @@ module _ {s : List ℕ} {from : ℕ} (d : ℕ) {a : List ℕ} {k p : ℕ} (fl : 
   -- the name at p is in the block
   pub filling-found : (i : ℕ) → i < k → SameText s (p + 1) (getD a i 0) true → Searched s from d Twice
   unfolding crosses names plain
-  filling-found i l t = record { later = λ q e. no-past e; is = λ ms m. let f = fl .is ms m in go ms f (f .rest) (f .here) (f .same) }
+  filling-found i l t = record { later = λ q e. no-past e; is = λ ms m. let f = fl .is ms m in go ms f (f .rest) (f .here) (f .agrees) }
     where
       go : (ms : LMembers) (f : Filled s d a k p ms) (rest : LMembers) → MembersAt s p d rest
           → repeated (namesOf ms) ≡ crosses (f .block) (namesOf rest) || repeated (namesOf rest) → repeated (namesOf ms) ≡ true
@@ -178,7 +165,7 @@ module _ {s : List ℕ} {from : ℕ} (d : ℕ) {a : List ℕ} {k p : ℕ} (fl : 
       later = λ q c. no-past c;
       is = λ ms m.
           let f = fl .is ms m in
-          f .same ∙ ap (λ (z : Bool). z || repeated (namesOf (f .rest))) (sym (h .is (f .block) (f .rest) (f .stands) (f .here)) ∙ e);
+          f .agrees ∙ ap (λ (z : Bool). z || repeated (namesOf (f .rest))) (sym (h .is (f .block) (f .rest) (f .stands) (f .here)) ∙ e);
     }
 
     pub filling-past : t ≡ false → 0 < k → Searched s from d (Past (At p))
@@ -186,7 +173,7 @@ module _ {s : List ℕ} {from : ℕ} (d : ℕ) {a : List ℕ} {k p : ℕ} (fl : 
       later = λ q c. let z : p ≡ q = cc in (omega (arith, fl .low), omega (arith, fl .high));
       is = λ ms m.
           let f = fl .is ms m in
-          (f .rest, f .here, f .same ∙ ap (λ (z : Bool). z || repeated (namesOf (f .rest))) (sym (h .is (f .block) (f .rest) (f .stands) (f .here)) ∙ e));
+          (f .rest, f .here, f .agrees ∙ ap (λ (z : Bool). z || repeated (namesOf (f .rest))) (sym (h .is (f .block) (f .rest) (f .stands) (f .here)) ∙ e));
     }
 
   module _ {r : Entry} (w : Without s a k (p + 1)) (en : EntryAt s p d r) where
@@ -197,7 +184,7 @@ module _ {s : List ℕ} {from : ℕ} (d : ℕ) {a : List ℕ} {k p : ℕ} (fl : 
       low = omega (arith, fl .low, en .later q e .0);
       high = en .later q e .1;
       places = λ i c. in-place i c (eqb i k) refl;
-      is = λ ms m. let f = fl .is ms m in go ms f (f .rest) (f .here) (f .same);
+      is = λ ms m. let f = fl .is ms m in go ms f (f .rest) (f .here) (f .agrees);
     }
       where
         in-place : (i : ℕ) → i < k + 1 → (t : Bool) → eqb i k ≡ t → getD (set a k (p + 1)) i 0 ≤ length s
@@ -215,7 +202,7 @@ module _ {s : List ℕ} {from : ℕ} (d : ℕ) {a : List ℕ} {k p : ℕ} (fl : 
                   (one-more (subst (λ (j : ℕ). NameAt s j n) (sym (getD-set-same a k (p + 1) 0 l)) nm) (kept (f .stands) k (p + 1) (omega arith)));
               rest = o;
               here = subst (λ (j : End). MembersFrom s d j o) e (en .is x y n u v z o h .2);
-              same = c ∙ joins n (f .block) (namesOf o) (w .is n (f .block) (f .stands) nm);
+              agrees = c ∙ joins n (f .block) (namesOf o) (w .is n (f .block) (f .stands) nm);
             }
 
     -- no members are left
@@ -223,7 +210,7 @@ module _ {s : List ℕ} {from : ℕ} (d : ℕ) {a : List ℕ} {k p : ℕ} (fl : 
     unfolding names plain crosses repeated
     filling-last e = record {
       later = λ q c. absurd (let z : _≡_ {A = ℕ} 0 1 = cc in omega arith);
-      is = λ ms m. let f = fl .is ms m in go ms f (f .rest) (f .here) (f .same);
+      is = λ ms m. let f = fl .is ms m in go ms f (f .rest) (f .here) (f .agrees);
     }
       where
         go : (ms : LMembers) (f : Filled s d a k p ms) (rest : LMembers) → MembersAt s p d rest

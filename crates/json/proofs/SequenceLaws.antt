@@ -1,79 +1,31 @@
 -- Members of an object and elements of an array are sequences: laws of where the first and the next begin, once for both.
 use mathlib.Core.Path.{_≡_, refl, sym, ap, _∙_}
 use mathlib.Core.Bool.{Bool, true, false}
-use mathlib.Core.List.{List, [], _∷_}
+use mathlib.Core.List.{List, _∷_}
 use Prim.Native.Nat.{ℕ, zero, suc, _+_, _-_, _≤_, _<_}
 use native.Mathlib.Omega.{arith}
+use native.Mathlib.Numerals.{sub-one}
 use lib.Dec.{eqb, ltb}
 use lib.ListN.{length, drop, getD, length-drop, drop-of-length-le}
 use borrow.Author.Tests.{ltb-true, ltb-false, eq-eqb, ne-eqb}
-use Rattle.json_grammar.specs.Value.{LItem, LItems, LMembers, inil, icons, lnil}
-use Rattle.json_grammar.specs.Reader.{Got, bad, got, then, over, skip, ws, readValue, readMoreMembers, readMoreElements, readObject}
-use Rattle.json_grammar.specs.ReaderLaws.{no-bad, deeper-inv, readValue-ws}
-use Rattle.json_grammar.specs.Levels.{readInObject, readInArray}
+use Rattle.json_grammar.specs.Reader.{Got, got, deeper, ws}
+use Rattle.json_grammar.specs.ReaderLaws.{no-bad}
+use Rattle.json_grammar.specs.Sequences.{Sequence, listed, members, elements, list-out}
 use Rattle.json_string.specs.declared.End.{End}
 use Rattle.json_string.specs.declared.End.the-variants.{At, Bad}
 use Rattle.json_string.specs.Ends.{at-byte, shorter}
-use Rattle.json_reader.specs.Contracts.{SkipsTo, readMembers, readElements, readArray}
+use Rattle.json_reader.specs.Contracts.{SkipsTo}
 use Rattle.json.specs.Members.{ReadsAt, ReadsFrom, FirstMember, FirstElement, Inside, Follows}
 
 -- Bad is no place
 pub never : {B : Type 0} {q : ℕ} → Bad ≡ At q → B
 never e = absurd (let z : _≡_ {A = ℕ} 0 1 = cc in omega arith)
 
--- `list` reads one or more and the closing byte, `inside` none or more, `more` what follows one
-record Sequence {A : Type 0} (nothing : A) (list inside more : ℕ → ℕ → List ℕ → Got A) (close : ℕ) : Type 0 where
-  list-out : (n d : ℕ) → list n d [] ≡ bad
-  inside-out : (n d : ℕ) → inside n d [] ≡ bad
-  inside-none : (n d b : ℕ) (x : List ℕ) → eqb b close ≡ true → inside n d (b ∷ x) ≡ got nothing x
-  inside-some : (n d b : ℕ) (x : List ℕ) → eqb b close ≡ false → inside n d (b ∷ x) ≡ list n d (b ∷ x)
-  more-zero : (d : ℕ) (x : List ℕ) → more 0 d x ≡ bad
-  more-out : (n d : ℕ) → more n d [] ≡ bad
-  more-none : (n d b : ℕ) (x : List ℕ) → eqb b close ≡ true → more (suc n) d (b ∷ x) ≡ got nothing x
-  more-some : (n d : ℕ) (x : List ℕ) → more (suc n) d (0x2C ∷ x) ≡ list n d (ws x)
-  more-other : (n d b : ℕ) (x : List ℕ) → eqb b close ≡ false → eqb b 0x2C ≡ false → more (suc n) d (b ∷ x) ≡ bad
+module _ {A B : Type 0} {nothing : A} {cons : B → A → A} {one : ℕ → ℕ → List ℕ → Got B} {inside more : ℕ → ℕ → List ℕ → Got A} {close : ℕ}
+    (q : Sequence nothing cons one inside more close) where
+  abbrev list : ℕ → ℕ → List ℕ → Got A
+  list n d x = listed cons one more n d x
 
-members : Sequence lnil (λ n d x. readMembers n d x) (λ n d x. readInObject n d x) (λ n d x. readMoreMembers n d x) 0x7D
-unfolding readMoreMembers
-members = record {
-  list-out = λ n d. refl;
-  inside-out = λ n d. refl;
-  inside-none = λ n d b x e. rw e;
-  inside-some = λ n d b x e. rw e;
-  more-zero = λ d x. refl;
-  more-out = out;
-  more-none = λ n d b x e. rw e;
-  more-some = λ n d x. refl;
-  more-other = λ n d b x e f. rw (e, f);
-}
-  where
-    out : (n d : ℕ) → readMoreMembers n d [] ≡ bad
-    out zero d = refl
-    out (suc n) d = refl
-
-elements : Sequence inil (λ n d x. readElements n d x) (λ n d x. readInArray n d x) (λ n d x. readMoreElements n d x) 0x5D
-unfolding readMoreElements readValue skip
-elements = record {
-  list-out = list-out;
-  inside-out = λ n d. refl;
-  inside-none = λ n d b x e. rw e;
-  inside-some = λ n d b x e. rw e;
-  more-zero = λ d x. refl;
-  more-out = out;
-  more-none = λ n d b x e. rw e;
-  more-some = λ n d x. ap (λ (g : Got LItem). then g (λ v r. over (icons v) (readMoreElements n d r))) (sym (readValue-ws n d x));
-  more-other = λ n d b x e f. rw (e, f);
-}
-  where
-    list-out : (n d : ℕ) → readElements n d [] ≡ bad
-    list-out zero d = refl
-    list-out (suc n) d = refl
-
-    out : (n d : ℕ) → readMoreElements n d [] ≡ bad
-    out zero d = refl
-    out (suc n) d = refl
-
-module _ {A : Type 0} {nothing : A} {list inside more : ℕ → ℕ → List ℕ → Got A} {close : ℕ} (q : Sequence nothing list inside more close) where
   -- THE FIRST ONE
 
   first-is : (s : List ℕ) (before : ℕ) (r : End) → Inside s before close r → (n d : ℕ) (a : A) (x : List ℕ) → length (drop (before + 1) s) ≤ n
@@ -94,6 +46,11 @@ module _ {A : Type 0} {nothing : A} {list inside more : ℕ → ℕ → List ℕ
           ∙ q .inside-none n d (getD s p 0) (drop (p + 1) s) (eq-eqb (getD s p 0) close (c (ltb-true p (length s) h))) in
           cc
       go false h = no-bad (sym (ap (inside n d) (w .is ∙ drop-of-length-le s (ltb-false p (length s) h)) ∙ q .inside-out n d) ∙ e)
+
+  first-opened : (s : List ℕ) (before : ℕ) (r : End) → Inside s before close r → (n d : ℕ) (a : A) (x : List ℕ) → length (drop (before + 1) s) ≤ n
+      → deeper d (λ e. inside n e (ws (drop (before + 1) s))) ≡ got a x → ReadsFrom (λ m y. list m (d - 1) y) nothing s r a
+  first-opened s before r h n zero a x l e = no-bad e
+  first-opened s before r h n (suc d) a x l e = rw sub-one (first-is s before r h n d a x l e)
 
   -- THE NEXT ONE, after a value that ends at e
 
@@ -132,7 +89,7 @@ module _ {A : Type 0} {nothing : A} {list inside more : ℕ → ℕ → List ℕ
         next-end : length s ≤ p → (n d : ℕ) (a : A) (x : List ℕ) → length (drop e s) ≤ n → more n d (ws (drop e s)) ≡ got a x → a ≡ nothing
         next-end g n d a x l k =
             let m = next-comma n d a x l k in
-            no-bad (sym (ap (list (m .fuel) d) (drop-of-length-le s g) ∙ q .list-out (m .fuel) d) ∙ m .reads)
+            no-bad (sym (ap (list (m .fuel) d) (drop-of-length-le s g) ∙ list-out q (m .fuel) d) ∙ m .reads)
 
 -- FOR BOTH
 
@@ -140,27 +97,11 @@ within : (s : List ℕ) (before close : ℕ) (r : End) → Inside s before close
 within s before close (At x) h p e = let z : x ≡ p = cc in omega (arith, h .1)
 within s before close Bad h p e = never e
 
--- one level deeper
-deeper-by-one : {d e : ℕ} → d ≡ suc e → e ≡ d - 1
-deeper-by-one h = omega arith
-
 pub first-member : (s : List ℕ) (brace : ℕ) (r : End) → Inside s brace 0x7D r → FirstMember s brace r
-first-member s brace r h = record {
-  within = within s brace 0x7D r h;
-  is = λ d ms o.
-      let i = deeper-inv d (λ e. readInObject (o .fuel) e (ws (drop (brace + 1) s))) ms (o .left) (o .reads) in
-      first-is members s brace r h (o .fuel) (d - 1) ms (o .left) (o .enough)
-      (ap (λ (e : ℕ). readInObject (o .fuel) e (ws (drop (brace + 1) s))) (sym (deeper-by-one (i .1))) ∙ i .2);
-}
+first-member s brace r h = record { within = within s brace 0x7D r h; is = λ d ms o. first-opened members s brace r h (o .fuel) d ms (o .left) (o .enough) (o .reads) }
 
 pub first-element : (s : List ℕ) (bracket : ℕ) (r : End) → Inside s bracket 0x5D r → FirstElement s bracket r
-first-element s bracket r h = record {
-  within = within s bracket 0x5D r h;
-  is = λ d vs o.
-      let i = deeper-inv d (λ e. readInArray (o .fuel) e (ws (drop (bracket + 1) s))) vs (o .left) (o .reads) in
-      first-is elements s bracket r h (o .fuel) (d - 1) vs (o .left) (o .enough)
-      (ap (λ (e : ℕ). readInArray (o .fuel) e (ws (drop (bracket + 1) s))) (sym (deeper-by-one (i .1))) ∙ i .2);
-}
+first-element s bracket r h = record { within = within s bracket 0x5D r h; is = λ d vs o. first-opened elements s bracket r h (o .fuel) d vs (o .left) (o .enough) (o .reads) }
 
 module _ {s : List ℕ} {e at : ℕ} (w : SkipsTo s e at) where
   pub follows-out : length s ≤ at → Follows s e Bad

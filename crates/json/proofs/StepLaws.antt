@@ -5,11 +5,12 @@ use mathlib.Core.List.{List, [], _∷_}
 use Prim.Native.Nat.{ℕ, zero, suc, _+_, _-_, _≤_, _<_}
 use native.Mathlib.Omega.{arith}
 use lib.ListN.{length, take, drop, getD, length-drop, drop-of-length-le}
-use Rattle.json_grammar.specs.Value.{LValue, LItem, LItems, LMember, LMembers, stringL, numberL, trueL, falseL, nullL, arrayL, objectL, item, icons, named, lnil, lcons, plain}
+use Rattle.json_grammar.specs.Value.{LValue, LItem, LItems, LMember, LMembers, stringL, numberL, trueL, falseL, nullL, arrayL, objectL, item, icons, named, lcons, plain}
 use Rattle.json_grammar.specs.Places.{kindOf, margin, pos, Kind as Kinds}
-use Rattle.json_grammar.specs.Reader.{Got, bad, got, then, over, expect, skip, ws, word, upTo, placedItem, value-by, readChars, readNumber, pastNumber, readValue, readMoreMembers, readMoreElements, readObject}
+use Rattle.json_grammar.specs.Reader.{Got, bad, got, over, expect, skip, ws, word, upTo, placedItem, value-by, readChars, readNumber, pastNumber, readValue, readMoreMembers, readMoreElements, readObject}
 use Rattle.json_grammar.specs.Reader.{ValueLead, quoteLead, bracketLead, braceLead, trueLead, falseLead, nullLead, numberLead, valueLead}
 use Rattle.json_grammar.specs.ReaderLaws.{no-bad, then-inv, over-inv, expect-inv}
+use Rattle.json_grammar.specs.Sequences.{members, elements, list-inv, MemberRead, member-inv}
 use Rattle.json_grammar.specs.Bytes.{isWs}
 use Rattle.json_grammar.specs.ByteLaws.{by-byte}
 use borrow.Author.Tests.{eq-eqb, ne-eqb}
@@ -17,15 +18,14 @@ use Rattle.json_string.specs.declared.End.{End}
 use Rattle.json_string.specs.declared.End.the-variants.{At, Bad}
 use Rattle.json_string.specs.Ends.{at-byte, shorter, ends-at, ends-bad}
 use Rattle.json_string.specs.Strings.{NameAt, StringEnds}
-use Rattle.json_reader.specs.Contracts.{SkipsTo, BareEnds, Spans, SpanAt, readTrimmed, readArray, readMember, readMembers, readElements, readAfterName, kindBy}
+use Rattle.json_reader.specs.Contracts.{SkipsTo, BareEnds, Spans, SpanAt, readTrimmed, readArray, readAfterName, kindBy}
 use Rattle.json_reader.specs.declared.values.Span.{Span}
 use Rattle.json_reader.specs.declared.values.Span.the-variants.{Found, Nowhere}
 use Rattle.json_reader.specs.EndsLaws.{given, none, bounds}
 use Rattle.json.specs.declared.places.Place.{Place}
-use Rattle.json.specs.declared.places.Kind.{Kind}
 use Rattle.json.specs.declared.steps.Item.{Item}
 use Rattle.json.specs.declared.steps.Entry.{Entry}
-use Rattle.json.specs.Members.{ReadsAt, MembersAt, ElementsAt, ObjectAt, ArrayAt, kindIn, part, Holds, ValueIs, NameIs, ItemAt, EntryAt, Follows, PlaceIs, Spanned}
+use Rattle.json.specs.Members.{ReadsAt, MembersAt, ElementsAt, part, Holds, ValueIs, ItemAt, EntryAt, PlaceIs, Spanned}
 use Rattle.json.proofs.SequenceLaws.{never}
 
 -- a callee's contract at the answer that it gave
@@ -162,12 +162,11 @@ module _ {s : List ℕ} (d : ℕ) {f e : ℕ} {r : Item} (k : f < e) (l : e ≤ 
 element-parts : {s : List ℕ} {p : ℕ} (d : ℕ) (i : LItem) (vs : LItems) (o : ElementsAt s p d (icons i vs))
     → (y : List ℕ) × (readValue (o .fuel) d (drop p s) ≡ got i y) × (readMoreElements (o .fuel) d y ≡ got vs (o .left))
 element-parts {s} {p} d i vs o =
-    let a = then-inv (readValue (o .fuel) d (drop p s)) (λ v r. over (icons v) (readMoreElements (o .fuel) d r)) (icons i vs) (o .left) (o .reads) in
-    let b = over-inv (icons (a .0)) (readMoreElements (o .fuel) d (a .1)) (icons i vs) (o .left) (a .3) in
-    let c = b .2 in
+    let a = list-inv elements (o .fuel) d (drop p s) (icons i vs) (o .left) (o .reads) in
+    let c = a .5 in
     let x : a .0 ≡ i = cc in
-    let z : b .0 ≡ vs = cc in
-    (a .1, a .2 ∙ ap (λ (v : LItem). got v (a .1)) x, b .1 ∙ ap (λ (v : LItems). got v (o .left)) z)
+    let z : a .2 ≡ vs = cc in
+    (a .1, a .3 ∙ ap (λ (v : LItem). got v (a .1)) x, a .4 ∙ ap (λ (v : LItems). got v (o .left)) z)
 
 module _ {s : List ℕ} {p f : ℕ} (d : ℕ) (g : SkipsTo s p f) where
   pub item-is : {e : ℕ} {r : Item} → f < length s → BareEnds s f d (At e) → Spanned s f e r → ItemAt s p d r
@@ -228,41 +227,29 @@ record Parts (s : List ℕ) (p d n : ℕ) (f t cs : List ℕ) (i : LItem) (ms : 
 
 parts : {s : List ℕ} {p : ℕ} (d : ℕ) (f t cs : List ℕ) (i : LItem) (ms : LMembers) (o : MembersAt s p d (lcons (named f t cs i) ms))
     → Parts s p d (o .fuel) f t cs i ms (o .left)
-parts {s} {p} d f t cs i ms o = at-place (drop p s) refl
+parts {s} {p} d f t cs i ms o =
+    let a = list-inv members (o .fuel) d (drop p s) (lcons (named f t cs i) ms) (o .left) (o .reads) in
+    join (a .0) (a .1) (a .2) (member-inv (o .fuel) d (drop p s) (a .0) (a .1) (a .3)) (a .4) (a .5)
   where
-    n : ℕ
-    n = o .fuel
-
-    join : (y s₂ s₃ z cs′ : List ℕ) (w : LItem) (ns : LMembers) → p < length s → y ≡ drop (p + 1) s → readChars (o .fuel) y ≡ got cs′ s₂ → ws s₂ ≡ 0x3A ∷ s₃ → readValue (o .fuel) d s₃ ≡ got w z
-        → readMoreMembers (o .fuel) d z ≡ got ns (o .left) → lcons (named y (0x22 ∷ s₂) cs′ w) ns ≡ lcons (named f t cs i) ms → Parts s p d (o .fuel) f t cs i ms (o .left)
-    join y s₂ s₃ z cs′ w ns h e₁ e₂ e₃ e₄ e₅ e₆ =
-        let a : w ≡ i = cc in
+    join : (m : LMember) (z : List ℕ) (ns : LMembers) → MemberRead (o .fuel) d (drop p s) m z → readMoreMembers (o .fuel) d z ≡ got ns (o .left)
+        → lcons m ns ≡ lcons (named f t cs i) ms → Parts s p d (o .fuel) f t cs i ms (o .left)
+    join m z ns r more-is e =
+        let h : p < length s = omega (arith, length-drop p s, ap length (r .opens)) in
+        let m-is = r .is in
+        let opens : 0x22 ∷ r .name ≡ getD s p 0 ∷ drop (p + 1) s = sym (r .opens) ∙ at-byte s p h in
+        let y-is : r .name ≡ drop (p + 1) s = cc in
+        let a : r .value ≡ i = cc in
         let b : ns ≡ ms = cc in
         record {
           here = h;
-          past-name = s₂;
+          past-name = r .closed;
           past-value = z;
           from-is = cc;
           to-is = cc;
-          chars = cc;
-          value = ap (λ (x : List ℕ). expect 0x3A x (λ u. readValue (o .fuel) d u)) e₃ ∙ e₄ ∙ ap (λ (x : LItem). got x z) a;
-          more = e₅ ∙ ap (λ (x : LMembers). got x (o .left)) b;
+          chars = cc (r .chars);
+          value = ap (λ (x : List ℕ). expect 0x3A x (λ u. readValue (o .fuel) d u)) (r .parts) ∙ r .reads ∙ ap (λ (x : LItem). got x z) a;
+          more = more-is ∙ ap (λ (x : LMembers). got x (o .left)) b;
         }
-
-    at-place : (x : List ℕ) → drop p s ≡ x → Parts s p d (o .fuel) f t cs i ms (o .left)
-    at-place [] e = no-bad (sym (ap (readMembers (o .fuel) d) e) ∙ o .reads)
-    at-place (b ∷ x) e =
-        let h : p < length s = omega (arith, length-drop p s, ap length e) in
-        let i₀ = then-inv (readMember (o .fuel) d (b ∷ x)) (λ m r. over (lcons m) (readMoreMembers (o .fuel) d r)) (lcons (named f t cs i) ms) (o .left)
-        (sym (ap (readMembers (o .fuel) d) e) ∙ o .reads) in
-        let i₁ = expect-inv 0x22 (b ∷ x) (λ y. then (readChars (o .fuel) y) (λ c r. expect 0x3A (ws r) (λ u. over (named y (0x22 ∷ r) c) (readValue (o .fuel) d u)))) (i₀ .0) (i₀ .1) (i₀ .2) in
-        let i₂ = then-inv (readChars (o .fuel) (i₁ .0)) (λ c r. expect 0x3A (ws r) (λ u. over (named (i₁ .0) (0x22 ∷ r) c) (readValue (o .fuel) d u))) (i₀ .0) (i₀ .1) (i₁ .2) in
-        let i₃ = expect-inv 0x3A (ws (i₂ .1)) (λ u. over (named (i₁ .0) (0x22 ∷ i₂ .1) (i₂ .0)) (readValue (o .fuel) d u)) (i₀ .0) (i₀ .1) (i₂ .3) in
-        let i₄ = over-inv (named (i₁ .0) (0x22 ∷ i₂ .1) (i₂ .0)) (readValue (o .fuel) d (i₃ .0)) (i₀ .0) (i₀ .1) (i₃ .2) in
-        let i₅ = over-inv (lcons (i₀ .0)) (readMoreMembers (o .fuel) d (i₀ .1)) (lcons (named f t cs i) ms) (o .left) (i₀ .3) in
-        let tail-is : 0x22 ∷ i₁ .0 ≡ getD s p 0 ∷ drop (p + 1) s = sym (i₁ .1) ∙ sym e ∙ at-byte s p h in
-        let y-is : i₁ .0 ≡ drop (p + 1) s = cc in
-        join (i₁ .0) (i₂ .1) (i₃ .0) (i₀ .1) (i₂ .0) (i₄ .0) (i₅ .0) h y-is (i₂ .2) (i₃ .1) (i₄ .1) (i₅ .1) (ap (λ (m : LMember). lcons m (i₅ .0)) (i₄ .2) ∙ i₅ .2)
 
 -- the first name stands past the quotation mark
 pub first-name : {s : List ℕ} {p : ℕ} (d : ℕ) (f t cs : List ℕ) (i : LItem) (ms : LMembers) → MembersAt s p d (lcons (named f t cs i) ms) → NameAt s (p + 1) cs

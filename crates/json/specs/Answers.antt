@@ -1,13 +1,13 @@
 -- What a header answers, and what the member reader answers for its member k.
 use mathlib.Core.Path.{_≡_}
-use mathlib.Core.Bool.{Bool, true, false, not}
+use mathlib.Core.Bool.{Bool, not}
 use mathlib.Core.List.{List, [], _∷_}
 use Prim.Native.Nat.{ℕ, zero, suc}
 use lib.Dec.{ltb}
 use lib.ListN.{length}
 use Rattle.common.specs.First.{Test, _when_, first}
 use Rattle.json_grammar.specs.Value.{objectV, twice, LMembers, lnil, plainMembers}
-use Rattle.json_grammar.specs.Places.{Kind, stringK, numberK, trueK, falseK, nullK, arrayK, objectK, Member as Shown, Found, no-member, found, member}
+use Rattle.json_grammar.specs.Places.{Kind, stringK, numberK, trueK, falseK, nullK, arrayK, objectK, Found, no-member, found, member}
 use Rattle.json_grammar.specs.Reader.{Got, bad, got, read}
 use Rattle.json_reader.specs.Contracts.{isText}
 use Rattle.json.specs.declared.places.Place.{Place}

@@ -7,12 +7,12 @@ use Prim.Native.Nat.{ℕ, zero, suc, _≤_, _<_}
 use native.Mathlib.Omega.{arith}
 use lib.Dec.{ltb}
 use lib.ListN.{length}
-use Rattle.common.specs.First.{Rule, _on_, Test, _when_, first, numbers, among, condition, earlier, NoneOf, Decides, holds, fails, Agree, done, _by_}
+use Rattle.common.specs.First.{Rule, _on_, Test, _when_, first, among, condition, earlier, NoneOf, Decides, holds, fails, Agree, done, _by_}
 use Rattle.common.specs.First.{first-stands, none-stands, in-range, agree-append, decides-bool, decides-lt, decides-not, decides-iff, stable}
 use Rattle.json_grammar.specs.Value.{Members, mnil, mcons, objectV, twice, LMembers, lnil, lcons, named, plain, plainMembers}
 use Rattle.json_grammar.specs.Grammar.{Derivation, bytes, readingOf, depthOf, membersOf}
-use Rattle.json_grammar.specs.Places.{Kind, stringK, numberK, trueK, falseK, nullK, arrayK, objectK, Found, no-member, found, member, Member as Shown}
-use Rattle.json_grammar.specs.Reader.{Got, bad, got, read}
+use Rattle.json_grammar.specs.Places.{Kind, stringK, numberK, trueK, falseK, nullK, arrayK, objectK, Found, no-member, found, member}
+use Rattle.json_grammar.specs.Reader.{Got, got, read}
 use Rattle.json_grammar.specs.Readings.{plain-of}
 use Rattle.json_grammar.specs.Complete.{complete}
 use Rattle.json_grammar.specs.Sound.{Derived}
@@ -21,7 +21,6 @@ use Rattle.json_grammar.specs.Shown.{Shows}
 use Rattle.json_grammar.specs.ShownLaws.{shown}
 use Rattle.json_reader.specs.Contracts.{isText}
 use Rattle.json.specs.declared.places.Place.{Place}
-use Rattle.json.specs.declared.places.Member.{Member}
 use Rattle.json.specs.declared.places.Member.the-variants.{Refused}
 use Rattle.json.specs.Answers.{longest, deepest, membersIn, twiceIn, headerTests, checked, shownBy, place, answerFor, unlessRefused, memberOf, numberOf, with-kind, valuesOf}
 
@@ -96,20 +95,20 @@ member-agree h k = agree-append (header-agree h) λ n. (let t = stable (text-dec
 
 -- THE FIRST REFUSAL STANDS
 
-shown-number : (k : Kind) (n v : Place) → numberOf (shownBy k n v) ≡ 0
-unfolding numberOf shownBy
-shown-number stringK n v = refl
-shown-number numberK n v = refl
-shown-number trueK n v = refl
-shown-number falseK n v = refl
-shown-number nullK n v = refl
-shown-number arrayK n v = refl
-shown-number objectK n v = refl
+shown-by : (k : Kind) (n v : Place) → (numberOf (shownBy k n v) ≡ 0) × (valuesOf (shownBy k n v) ≡ with-kind k n v)
+unfolding numberOf valuesOf shownBy
+shown-by stringK n v = (refl, refl)
+shown-by numberK n v = (refl, refl)
+shown-by trueK n v = (refl, refl)
+shown-by falseK n v = (refl, refl)
+shown-by nullK n v = (refl, refl)
+shown-by arrayK n v = (refl, refl)
+shown-by objectK n v = (refl, refl)
 
 answer-number : (f : Found) → numberOf (answerFor f) ≡ first (16 when missing f ∷ [])
 unfolding answerFor numberOf
 answer-number no-member = refl
-answer-number (found m) = shown-number (m .kind) _ _
+answer-number (found m) = shown-by (m .kind) _ _ .0
 
 number-is : (a b c : Bool) (f : Found)
     → numberOf (unlessRefused (first (5 when a ∷ 7 when b ∷ 8 when c ∷ [])) (answerFor f)) ≡ first (5 when a ∷ 7 when b ∷ 8 when c ∷ 16 when missing f ∷ [])
@@ -166,20 +165,10 @@ is-false false h = refl
 
 -- WHAT AN ANSWER SAYS
 
-values-by : (k : Kind) (n v : Place) → valuesOf (shownBy k n v) ≡ with-kind k n v
-unfolding valuesOf shownBy
-values-by stringK n v = refl
-values-by numberK n v = refl
-values-by trueK n v = refl
-values-by falseK n v = refl
-values-by nullK n v = refl
-values-by arrayK n v = refl
-values-by objectK n v = refl
-
 values-are : (f : Found) → valuesOf (answerFor f) ≡ f
 unfolding answerFor valuesOf
 values-are no-member = refl
-values-are (found m) = values-by (m .kind) (place (m .nameStart) (m .nameEnd)) (place (m .valueStart) (m .valueEnd))
+values-are (found m) = shown-by (m .kind) (place (m .nameStart) (m .nameEnd)) (place (m .valueStart) (m .valueEnd)) .1
 
 module _ (h : List ℕ) where
   past-all : (ms : LMembers) (k : ℕ) → count (plainMembers ms) ≤ k → answerFor (member h k ms) ≡ Refused 16
@@ -191,7 +180,7 @@ module _ (h : List ℕ) where
   within-all : (ms : LMembers) (k : ℕ) → k < count (plainMembers ms) → numberOf (answerFor (member h k ms)) ≡ 0
   unfolding count member plain answerFor
   within-all lnil k l = absurd (omega arith)
-  within-all (lcons (named f t n v) ms) zero l = shown-number _ _ _
+  within-all (lcons (named f t n v) ms) zero l = shown-by _ _ _ .0
   within-all (lcons (named f t n v) ms) (suc k) l = within-all ms k (omega arith)
 
 -- READ EXACTLY WHEN DERIVED

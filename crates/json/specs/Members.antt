@@ -1,9 +1,9 @@
 -- Members and elements that stand at places of a text, and what a step over one of them gives.
 use mathlib.Core.Path.{_≡_}
-use mathlib.Core.List.{List, [], _∷_}
+use mathlib.Core.List.{List}
 use Prim.Native.Nat.{ℕ, _+_, _-_, _≤_, _<_}
 use lib.ListN.{length, take, drop, getD}
-use Rattle.json_grammar.specs.Value.{LValue, LItem, LItems, LMember, LMembers, stringL, numberL, trueL, falseL, nullL, arrayL, objectL, item, inil, icons, named, lnil, lcons, plain}
+use Rattle.json_grammar.specs.Value.{LValue, LItems, LMembers, stringL, numberL, trueL, falseL, nullL, arrayL, objectL, item, inil, icons, named, lnil, lcons, plain}
 use Rattle.json_grammar.specs.Places.{stringK, numberK, trueK, falseK, nullK, arrayK, objectK, kindOf, margin, pos, Kind as Kinds}
 use Rattle.json_grammar.specs.Reader.{Got, got, ws, read, readObject, readMoreMembers, readMoreElements, valueLead}
 use Rattle.json_string.specs.declared.End.{End}

@@ -1,12 +1,11 @@
 -- The specification's starred rows on headers, as rows of one theorem.
 use mathlib.Core.Path.{_≡_, refl, sym, _∙_}
-use mathlib.Core.List.{List, [], _∷_}
 use Prim.Native.Nat.{ℕ}
-use Prim.Native.Char.{code}
-use Prim.Native.String.{String, [] as end, _∷_ as _and_}
-use lib.ListN.{length}
+use Prim.Native.String.{String}
+use Rattle.common.specs.Same.{same}
+use Rattle.common.specs.Ascii.{ascii}
 use Rattle.json_grammar.specs.Bytes.{within, isWs, isDigit, isDigit19, isE, isSign, isHex, hexVal, allHex, hex4, isTail, code2, code3, code4, isHigh, isLow, isSurrogate, pairCode}
-use Rattle.json_grammar.specs.Value.{eqList, among, repeated, names, twice, plain}
+use Rattle.json_grammar.specs.Value.{among, repeated, names, twice, plain}
 use Rattle.json_grammar.specs.Grammar.{Derivation, bytes, readingOf}
 use Rattle.json_grammar.specs.Places.{kindOf, pos, margin, placed, member}
 use Rattle.json_grammar.specs.Reader.{read, readValue, readChars, readChar, charLead, escapeLeadOf, isUnescaped1, pastNumber, word, valueLead, skip}
@@ -17,16 +16,11 @@ use Rattle.json.specs.declared.places.Member.the-variants.{Refused, Arra
 use Rattle.json.specs.declared.places.Member.the-variants.{String as Text}
 use Rattle.json.specs.Answers.{headerTests, checked, shownBy, place, answerFor, unlessRefused, memberOf}
 
--- the bytes of a text of ASCII characters
-unfoldable pub ascii : String → List ℕ
-ascii end = []
-ascii (_and_ c s) = code c ∷ ascii s
-
 -- what member k of a header answers
 unfoldable pub answers : String → ℕ → Member
 unfolding read readValue readChars readChar charLead escapeLeadOf isUnescaped1 pastNumber word valueLead skip
     within isWs isDigit isDigit19 isE isSign isHex hexVal allHex hex4 isTail code2 code3 code4 isHigh isLow isSurrogate pairCode
-    eqList among repeated names twice plain kindOf pos margin placed member isText headerTests checked shownBy answerFor unlessRefused memberOf ascii
+    same among repeated names twice plain kindOf pos margin placed member isText headerTests checked shownBy answerFor unlessRefused memberOf ascii
 answers h k = memberOf (ascii h) k
 
 pub rows :

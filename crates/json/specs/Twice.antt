@@ -2,13 +2,12 @@
 use mathlib.Core.Path.{_≡_}
 use mathlib.Core.Bool.{Bool, true, false, _||_}
 use mathlib.Core.List.{List, [], _∷_}
-use Prim.Native.Nat.{ℕ, zero, suc, _+_, _≤_, _<_}
+use Prim.Native.Nat.{ℕ, suc, _≤_, _<_}
 use lib.ListN.{length, drop, getD}
 use Rattle.json_grammar.specs.Value.{among, repeated, names, LMembers, plainMembers}
 use Rattle.json_grammar.specs.Reader.{ws}
 use Rattle.json_grammar.specs.Scan.{namesTwice, scan}
-use Rattle.json_string.specs.declared.End.{End}
-use Rattle.json_string.specs.declared.End.the-variants.{At, Bad}
+use Rattle.json_string.specs.declared.End.the-variants.{At}
 use Rattle.json_string.specs.Strings.{NameAt}
 use Rattle.json_reader.specs.Contracts.{readMembers}
 use Rattle.json.specs.declared.names.Search.{Search}

@@ -38,7 +38,7 @@ pub fn check(header: &[u8]) -> u8
 }
 
 // Where the first member of the top object begins, if it has one.
-// Rules out the place of the brace, and a member of `{}`.
+// Rules out no members of a header that has some, and a brace looked for in the white space before it.
 pub fn top_members(header: &[u8]) -> End
     ensures { λ r. ⌜ TopMembers (now (header .entry)) r ⌝ }
 {
@@ -93,7 +93,7 @@ fn nth_member(s: &[u8], from: usize, depth: usize, k: usize) -> Member
 }
 
 // Member k of the top object, from 0; 16 past the last; 5, 7 or 8 if the header isn't read.
-// Rules out a member of a header that isn't read, and the same member for another k.
+// Rules out the first member for every k, and the first at k = 0 with 16 for every other k.
 pub fn member(header: &[u8], k: usize) -> Member
     ensures { λ r. ⌜ r ≡ memberOf (now (header .entry)) k ⌝ }
 {

@@ -85,7 +85,7 @@ fn block_meets(s: &[u8], names: &[usize; 64], from: usize, depth: usize) -> bool
 
 // Whether two of the members from `from` on have one name.
 // Rules out names compared as they are written, and a pair of members far apart that is passed over.
-pub fn names_twice(s: &[u8], from: usize, depth: usize) -> bool
+pub(crate) fn names_twice(s: &[u8], from: usize, depth: usize) -> bool
     requires { ⌜ from < length (now s) ⌝ }
     ensures { λ r. ⌜ NamesTwice (now (s .entry)) from depth r ⌝ }
 {
@@ -133,7 +133,7 @@ fn object_twice(s: &[u8], from: usize, depth: usize) -> bool
 
 // Whether some object from `from` on has a name twice: outside strings each opening brace starts an object.
 // Rules out a search of the top object alone, and a brace in a string taken for an object.
-pub fn twice_from(s: &[u8], from: usize, depth: usize) -> bool
+pub(crate) fn twice_from(s: &[u8], from: usize, depth: usize) -> bool
     requires { ⌜ from ≤ length (now s) ⌝ }
     ensures { λ r. ⌜ TwiceFrom (now (s .entry)) from depth r ⌝ }
 {

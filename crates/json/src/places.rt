@@ -35,7 +35,7 @@ pub enum Member {
 }
 
 // The kind of a value that begins with the byte b.
-pub fn kind_by(b: u8) -> Kind
+pub(crate) fn kind_by(b: u8) -> Kind
     ensures { λ r. ⌜ kindIn r ≡ kindBy (valueLead b) ⌝ }
 {
     if b == 0x22 {
@@ -60,7 +60,7 @@ pub fn kind_by(b: u8) -> Kind
 }
 
 // The place of a value that begins with the byte b and stands from f to e: a string is taken between its quotation marks.
-pub fn place_by(b: u8, f: usize, e: usize) -> Place
+pub(crate) fn place_by(b: u8, f: usize, e: usize) -> Place
     requires { ⌜ f < e ⌝ }
     ensures { λ r. ⌜ PlaceIs b f e r ⌝ }
 {

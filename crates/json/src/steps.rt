@@ -30,8 +30,8 @@ pub struct Item {
 }
 
 // Where the first member begins of the object that opens at `brace`, if it has one.
-// Rules out a place before the white space past the brace, and a member in `{ }`.
-pub fn first_member(s: &[u8], brace: usize) -> End
+// Rules out the brace's own place, and a member in `{ }`.
+pub(crate) fn first_member(s: &[u8], brace: usize) -> End
     requires { ⌜ brace < length (now s) ⌝ }
     ensures { λ r. ⌜ FirstMember (now (s .entry)) brace r ⌝ }
 {
@@ -115,7 +115,7 @@ fn no_entry() -> Entry
 }
 
 // The element at p.
-// Rules out a string's place with its quotation marks, and a next element where a bracket closes.
+// Rules out a string's place that has its quotation mark, and the kind of another value.
 pub fn item_at(s: &[u8], p: usize, depth: usize) -> Item
     requires { ⌜ p ≤ length (now s) ⌝ }
     ensures { λ r. ⌜ ItemAt (now (s .entry)) p depth r ⌝ }
@@ -135,7 +135,7 @@ pub fn item_at(s: &[u8], p: usize, depth: usize) -> Item
 }
 
 // The member at p.
-// Rules out the kind or the place of another member's value, and a next member that is passed over.
+// Rules out a name's place that begins a byte late, and the kind of another value.
 pub fn entry_at(s: &[u8], p: usize, depth: usize) -> Entry
     requires { ⌜ p < length (now s) ⌝ }
     ensures { λ r. ⌜ EntryAt (now (s .entry)) p depth r ⌝ }

@@ -42,6 +42,10 @@ pub within-is : (lo hi b : ℕ) → lo ≤ b → b ≤ hi → within lo hi b ≡
 unfolding within
 within-is lo hi b h k = rw (le-leb lo b h, le-leb b hi k)
 
+pub from-low : (lo hi b : ℕ) → lo ≤ b → leb b hi ≡ within lo hi b
+unfolding within
+from-low lo hi b h = rw (le-leb lo b h)
+
 pub below : (lo hi b : ℕ) → b < lo → within lo hi b ≡ false
 unfolding within
 below lo hi b h = rw (lt-leb lo b h)

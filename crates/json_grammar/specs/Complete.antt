@@ -1,12 +1,12 @@
 -- What the grammar derives, the reader reads, and it gives the derivation's located members.
-use mathlib.Core.Path.{_≡_, refl, sym, _∙_, subst}
+use mathlib.Core.Path.{_≡_, refl, sym, ap, _∙_, subst}
 use mathlib.Core.Bool.{Bool, true, false}
 use mathlib.Core.List.{List, [], _∷_}
 use Prim.Native.Nat.{ℕ, zero, suc, _≤_, _<_, max}
 use native.Mathlib.Omega.{arith}
 use lib.Dec.{eqb}
 use lib.ListN.{length}
-use borrow.Author.Tests.{eqb-true}
+use borrow.Author.Tests.{eqb-true, eq-eqb}
 use Rattle.json_grammar.specs.Bytes.{within, isWs, isDigit, isDigit19, isE}
 use Rattle.json_grammar.specs.Value.{Members, mnil, depth, depthValues, depthMembers, LItem, LItems, LMembers, stringL, numberL, arrayL}
 use Rattle.json_grammar.specs.Value.{objectL, item, inil, named, lnil}
@@ -22,7 +22,8 @@ use Rattle.json_grammar.specs.Grammar.{locatedArray, locatedElements, me
 use Rattle.json_grammar.specs.Reader.{Got, got, skip, ws, pastNumber, readNumber, word, valueLead, value, readObject, readValue}
 use Rattle.json_grammar.specs.Reader.{readMoreElements, readMoreMembers, read}
 use Rattle.json_grammar.specs.ByteLaws.{white-cases}
-use Rattle.json_grammar.specs.ReaderLaws.{no-bad, deeper-is, enough, ws-yield, readValue-ws, readValue-yield}
+use Rattle.json_grammar.specs.ReaderLaws.{no-bad, deeper-is, enough, skip-none, ws-yield, readValue-ws, readValue-yield}
+use Rattle.json_grammar.specs.Sequences.{Sequence, listed, members, elements}
 use Rattle.json_grammar.specs.Levels.{readElements, readInArray, readMember, readMembers, readInObject}
 use Rattle.json_grammar.specs.Written.{longer}
 use Rattle.json_grammar.specs.Written
@@ -71,6 +72,30 @@ number-case n d x r st =
     subst (λ (s : List ℕ). readNumber s ≡ got y r → readValue (suc n) d s ≡ got (item s r (numberL y)) (ws r)) (sym (f .is))
     (λ e. rw (l .0, skip) (rw (l .1, e))) (complete-number x r st)
 
+-- SEQUENCES, of elements and of members
+
+-- a token begins with its byte, past white space
+token-first : (b : ℕ) → isWs b ≡ false → (t : Token) (x : List ℕ) → ws (yieldToken b t x) ≡ b ∷ yieldMany (t .after) x
+unfolding yieldToken
+token-first b h t x = ws-yield (t .before) (b ∷ yieldMany (t .after) x) ∙ skip-none isWs (b ∷ yieldMany (t .after) x) (rw h)
+
+module _ {A B : Type 0} {nothing : A} {cons : B → A → A} {one : ℕ → ℕ → List ℕ → Got B} {inside more : ℕ → ℕ → List ℕ → Got A} {close : ℕ}
+    (q : Sequence nothing cons one inside more close) (n d : ℕ) where
+  none-inside : (e : Token) (r : List ℕ) → inside n d (ws (yieldToken close e r)) ≡ got nothing (yieldMany (e .after) r)
+  none-inside e r = ap (inside n d) (token-first close (q .black) e r) ∙ q .inside-none n d close (yieldMany (e .after) r) (eq-eqb close close refl)
+
+  last-one : (e : Token) (r : List ℕ) → length (yieldToken close e r) ≤ n → more n d (ws (yieldToken close e r)) ≡ got nothing (yieldMany (e .after) r)
+  last-one e r h =
+      enough (λ m. more m d (ws (yieldToken close e r))) _ n (length r) (omega (arith, longer (Written.token close (q .small) e) r))
+      (λ m _. ap (more (suc m) d) (token-first close (q .black) e r) ∙ q .more-none m d close (yieldMany (e .after) r) (eq-eqb close close refl))
+
+  next-one : (c : Token) (x : List ℕ) (g : Got A) → length (yieldToken 0x2C c x) ≤ n
+      → ((m : ℕ) → length x ≤ m → listed cons one more m d (ws x) ≡ g) → more n d (ws (yieldToken 0x2C c x)) ≡ g
+  unfolding isWs
+  next-one c x g h f =
+      enough (λ m. more m d (ws (yieldToken 0x2C c x))) g n (length x) (omega (arith, longer (Written.token 0x2C (omega arith) c) x))
+      (λ m l. ap (more (suc m) d) (token-first 0x2C refl c x) ∙ q .more-some m d (yieldMany (c .after) x) ∙ ap (listed cons one more m d) (ws-yield (c .after) x) ∙ f m l)
+
 -- ARRAYS
 
 -- elements begin with no closing bracket
@@ -101,24 +126,6 @@ array-case n d k t x w r vs h q f =
       ws-yield w r,
     ))
 
-no-elements : (n d : ℕ) (e : Token) (r : List ℕ) → readInArray n d (ws (yieldToken 0x5D e r)) ≡ got inil (yieldMany (e .after) r)
-unfolding yieldToken skip isWs
-no-elements n d e r = rw (ws-yield (e .before) (0x5D ∷ yieldMany (e .after) r))
-
-last-element : (n d : ℕ) (e : Token) (r : List ℕ) → length (yieldToken 0x5D e r) ≤ n
-    → readMoreElements n d (ws (yieldToken 0x5D e r)) ≡ got inil (yieldMany (e .after) r)
-unfolding readMoreElements yieldToken skip isWs
-last-element n d e r h =
-    enough (λ m. readMoreElements m d (ws (yieldToken 0x5D e r))) _ n (length r) (omega (arith, longer (Written.token 0x5D (omega arith) e) r))
-    (λ m _. rw (ws-yield (e .before) (0x5D ∷ yieldMany (e .after) r)))
-
-next-element : (n d : ℕ) (c : Token) (x : List ℕ) (g : Got LItems) → length (yieldToken 0x2C c x) ≤ n
-    → ((m : ℕ) → length x ≤ m → readElements m d x ≡ g) → readMoreElements n d (ws (yieldToken 0x2C c x)) ≡ g
-unfolding readMoreElements yieldToken skip isWs
-next-element n d c x g h f =
-    enough (λ m. readMoreElements m d (ws (yieldToken 0x2C c x))) _ n (length x) (omega (arith, longer (Written.token 0x2C (omega arith) c) x))
-    (λ m l. rw (ws-yield (c .before) (0x2C ∷ yieldMany (c .after) x), readValue-yield m d (c .after) x) (f m l))
-
 -- OBJECTS
 
 member-case : (n d : ℕ) (cs : Chars) (c : Token) (x y : List ℕ) (v : LItem) → length (yieldString cs (yieldToken 0x3A c x)) ≤ n → readValue n d x ≡ got v y
@@ -136,24 +143,6 @@ member-first (pair cs c v) r = refl
 pub object-members : (n d : ℕ) (m : MemberTree) (r : List ℕ) → readInObject n d (ws (yieldMember m r)) ≡ readMembers n d (yieldMember m r)
 unfolding yieldMember yieldString skip isWs
 object-members n d (pair cs c v) r = refl
-
-no-members : (n d : ℕ) (e : Token) (r : List ℕ) → readInObject n d (ws (yieldToken 0x7D e r)) ≡ got lnil (yieldMany (e .after) r)
-unfolding yieldToken skip isWs
-no-members n d e r = rw (ws-yield (e .before) (0x7D ∷ yieldMany (e .after) r))
-
-last-member : (n d : ℕ) (e : Token) (r : List ℕ) → length (yieldToken 0x7D e r) ≤ n
-    → readMoreMembers n d (ws (yieldToken 0x7D e r)) ≡ got lnil (yieldMany (e .after) r)
-unfolding readMoreMembers yieldToken skip isWs
-last-member n d e r h =
-    enough (λ m. readMoreMembers m d (ws (yieldToken 0x7D e r))) _ n (length r) (omega (arith, longer (Written.token 0x7D (omega arith) e) r))
-    (λ m _. rw (ws-yield (e .before) (0x7D ∷ yieldMany (e .after) r)))
-
-next-member : (n d : ℕ) (c : Token) (x : List ℕ) (g : Got LMembers) → length (yieldToken 0x2C c x) ≤ n
-    → ((m : ℕ) → length x ≤ m → readMembers m d (ws x) ≡ g) → readMoreMembers n d (ws (yieldToken 0x2C c x)) ≡ g
-unfolding readMoreMembers yieldToken skip isWs
-next-member n d c x g h f =
-    enough (λ m. readMoreMembers m d (ws (yieldToken 0x2C c x))) _ n (length x) (omega (arith, longer (Written.token 0x2C (omega arith) c) x))
-    (λ m l. rw (ws-yield (c .before) (0x2C ∷ yieldMany (c .after) x), ws-yield (c .after) x) (f m l))
 
 -- an object, past its first brace
 opened : (n d k : ℕ) (w : Ws) (x z : List ℕ) (ms : LMembers) → k < d
@@ -234,7 +223,7 @@ mutual
   complete-value (stringT cs) n d r l q st = string-case n d cs r l
 
   pub complete-object : (o : ObjectTree) (n d : ℕ) (r : List ℕ) → ObjectRead o r n d
-  complete-object (object0 b e) n d r l q = no-members n d e r
+  complete-object (object0 b e) n d r l q = none-inside members n d e r
   complete-object (objectOf b m ms e) n d r l q =
       let x = yieldMembers ms (yieldToken 0x7D e r) in
       let k = member-depth m (readingMembers ms) in
@@ -251,11 +240,11 @@ mutual
   pub complete-members : (ms : MembersTail) (n d : ℕ) (e : Token) (r : List ℕ) → length (yieldMembers ms (yieldToken 0x7D e r)) ≤ n
       → depthMembers (readingMembers ms) ≤ d
       → readMoreMembers n d (ws (yieldMembers ms (yieldToken 0x7D e r))) ≡ got (locatedMembers ms (yieldToken 0x7D e r)) (yieldMany (e .after) r)
-  complete-members mend n d e r l q = last-member n d e r l
+  complete-members mend n d e r l q = last-one members n d e r l
   complete-members (mmore c m ms) n d e r l q =
       let x = yieldMembers ms (yieldToken 0x7D e r) in
       let k = member-depth m (readingMembers ms) in
-      next-member n d c (yieldMember m x) _ l
+      next-one members n d c (yieldMember m x) _ l
       (λ j h. rw (
         member-first m x,
         complete-member m j d x h (omega arith) (stops-members ms e r),
@@ -263,7 +252,7 @@ mutual
       ))
 
   pub complete-array : (a : ArrayTree) (n d : ℕ) (r : List ℕ) → ArrayRead a r n d
-  complete-array (array0 b e) n d r l q = no-elements n d e r
+  complete-array (array0 b e) n d r l q = none-inside elements n d e r
   complete-array (arrayOf b v vs e) n d r l q =
       let x = yieldElements vs (yieldToken 0x5D e r) in
       let h = complete-value v n d x l (omega arith) (stops-elements vs e r) in
@@ -273,11 +262,15 @@ mutual
   pub complete-elements : (vs : ElementsTail) (n d : ℕ) (e : Token) (r : List ℕ) → length (yieldElements vs (yieldToken 0x5D e r)) ≤ n
       → depthValues (readingElements vs) ≤ d
       → readMoreElements n d (ws (yieldElements vs (yieldToken 0x5D e r))) ≡ got (locatedElements vs (yieldToken 0x5D e r)) (yieldMany (e .after) r)
-  complete-elements eend n d e r l q = last-element n d e r l
+  complete-elements eend n d e r l q = last-one elements n d e r l
   complete-elements (emore c v vs) n d e r l q =
       let x = yieldElements vs (yieldToken 0x5D e r) in
-      next-element n d c (yieldValue v x) _ l
-      (λ j h. rw (complete-value v j d x h (omega arith) (stops-elements vs e r), complete-elements vs j d e r (omega (arith, longer (Written.value v) x)) (omega arith)))
+      next-one elements n d c (yieldValue v x) _ l
+      (λ j h. rw (
+        readValue-ws j d (yieldValue v x),
+        complete-value v j d x h (omega arith) (stops-elements vs e r),
+        complete-elements vs j d e r (omega (arith, longer (Written.value v) x)) (omega arith),
+      ))
 
 -- a whole object, past its first brace
 pub read-object : (o : ObjectTree) (n d : ℕ) (r : List ℕ) → length (insideObject o r) ≤ n → depthMembers (readingObject o) < d
@@ -290,8 +283,8 @@ past-object (object0 b e) r = ws-yield (e .after) r
 past-object (objectOf b m ms e) r = ws-yield (e .after) r
 
 first-brace : (w : Ws) (t : Token) (x : List ℕ) → ws (yieldMany w (yieldToken 0x7B t x)) ≡ 0x7B ∷ yieldMany (t .after) x
-unfolding yieldToken skip isWs
-first-brace w t x = ws-yield w (yieldMany (t .before) (0x7B ∷ yieldMany (t .after) x)) ∙ ws-yield (t .before) (0x7B ∷ yieldMany (t .after) x)
+unfolding isWs
+first-brace w t x = ws-yield w (yieldToken 0x7B t x) ∙ token-first 0x7B refl t x
 
 pub text-case : (d : ℕ) (s x y : List ℕ) (ms : LMembers) → ws s ≡ 0x7B ∷ x → readObject (length s) d x ≡ got ms y → ws y ≡ [] → read d s ≡ got ms []
 unfolding read

@@ -3,29 +3,23 @@ use mathlib.Core.Path.{_≡_, refl, sym, _∙_}
 use mathlib.Core.Bool.{Bool, true, false}
 use mathlib.Core.List.{List, [], _∷_, _++_}
 use Prim.Native.Nat.{ℕ, zero, suc}
-use Prim.Native.Char.{code}
-use Prim.Native.String.{String, [] as end, _∷_ as _and_}
-use lib.ListN.{length, take}
+use Prim.Native.String.{String}
+use Rattle.common.specs.Same.{same}
+use Rattle.common.specs.Ascii.{ascii}
 use Rattle.json_grammar.specs.Bytes.{within, isWs, isDigit, isDigit19, isE, isSign, isUnescaped, isHex, hexVal, allHex, hex4, isTail, code2, code3, code4}
 use Rattle.json_grammar.specs.Bytes.{isHigh, isLow, isSurrogate, pairCode}
 use Rattle.json_grammar.specs.Value.{Value, Members, stringV, numberV, trueV, falseV, nullV, arrayV, objectV, vnil, vcons, mnil, mcons, depth}
-use Rattle.json_grammar.specs.Value.{eqList, among}
-use Rattle.json_grammar.specs.Value.{repeated, names, twice, LMembers, plain, plainMembers}
+use Rattle.json_grammar.specs.Value.{among, repeated, names, twice, LMembers, plain, plainMembers}
 use Rattle.json_grammar.specs.Grammar.{Many, none, more, Token, Derivation, objectOf, pair, mend, arrayT, array0, Chars, ccons, cnil, unescaped, utf8-1}
 use Rattle.json_grammar.specs.Grammar.{yieldMany, yieldToken, yieldFrom, yieldUtf8, yieldChar, yieldChars, yieldString, yieldValue, bytes}
 use Rattle.json_grammar.specs.Grammar.{codeUtf8, codeOf}
 use Rattle.json_grammar.specs.Grammar.{codesOf, readingValue, readingOf, depthOf, fromArray, pastArray, locatedValue, membersOf}
-use Rattle.json_grammar.specs.Places.{Kind, stringK, numberK, trueK, falseK, nullK, arrayK, objectK, kindOf, Member, Found, no-member, found, pos, margin}
+use Rattle.json_grammar.specs.Places.{Kind, stringK, numberK, trueK, falseK, nullK, arrayK, objectK, kindOf, Found, no-member, found, pos, margin}
 use Rattle.json_grammar.specs.Places.{placed, member}
 use Rattle.json_grammar.specs.Reader.{Got, bad, got, over, skip, isUnescaped1, charLead, escapeLeadOf, readChar, readChars, pastNumber, word, valueLead}
 use Rattle.json_grammar.specs.Reader.{readValue, read}
 use Rattle.json_grammar.specs.Sound.{Derived}
 use Rattle.json_grammar.specs.Unique.{not-derived, unique, one-reading}
-
--- the bytes of a text of ASCII characters
-unfoldable ascii : String → List ℕ
-ascii end = []
-ascii (_and_ c s) = code c ∷ ascii s
 
 -- what a header reads as, at most 8 deep
 unfoldable reading : List ℕ → Got Members
@@ -60,10 +54,10 @@ twice-in bad = false
 twice-in (got ms r) = twice (objectV ms)
 
 unfoldable doubled : List ℕ → Bool
-unfolding reading twice names repeated among eqList
+unfolding reading twice names repeated among same
 doubled s = twice-in (reading s)
 
--- STARRED ROWS OF THE PAPER
+-- STARRED ROWS OF THE SPECIFICATION
 
 alg : List ℕ
 alg = ascii "alg"

@@ -11,6 +11,7 @@ pub mod Scan
 -- the bytes at a member's places are its name and value (ShownLaws), the scan finds names twice (ScanLaws).
 pub mod ByteLaws
 pub mod ReaderLaws
+pub mod Sequences
 pub mod Written
 pub mod CharLaws
 pub mod NumberLaws

@@ -2,7 +2,7 @@
 use mathlib.Core.List.{List}
 use Prim.Native.Nat.{ℕ, zero, suc, _+_, _-_}
 use lib.ListN.{length}
-use Rattle.json_grammar.specs.Value.{Value, stringV, numberV, trueV, falseV, nullV, arrayV, objectV, LItem, item, LMember, LMembers, named, lnil, lcons, plain}
+use Rattle.json_grammar.specs.Value.{Value, stringV, numberV, trueV, falseV, nullV, arrayV, objectV, item, LMember, LMembers, named, lnil, lcons, plain}
 
 -- the seven kinds of value
 pub data Kind : Type 0 where

@@ -4,7 +4,7 @@ use mathlib.Core.List.{List, [], _∷_}
 use Prim.Native.Nat.{ℕ, zero, suc, _-_}
 use lib.Dec.{eqb}
 use lib.ListN.{length, take}
-use Rattle.json_grammar.specs.Bytes.{within, isWs, isDigit, isDigit19, isE, isSign, isTail, allHex, hex4, code2, code3, code4, isHigh, isLow, isSurrogate, pairCode}
+use Rattle.json_grammar.specs.Bytes.{within, isWs, isDigit, isDigit19, isE, isSign, isTail, allHex, hex4, code2, code3, code4, isHigh, isLow, pairCode}
 use Rattle.json_grammar.specs.Value.{LValue, LItem, LItems, LMember, LMembers, stringL, numberL, trueL, falseL, nullL, arrayL, objectL, item, inil, icons, named, lnil, lcons}
 
 pub data Got (A : Type 0) : Type 0 where

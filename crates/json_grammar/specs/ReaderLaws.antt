@@ -5,11 +5,12 @@ use mathlib.Core.List.{List, [], _∷_, _++_}
 use Prim.Native.Nat.{ℕ, zero, suc, _≤_, _<_}
 use native.Mathlib.Omega.{arith}
 use lib.Dec.{eqb}
+use lib.ListN.{length}
 use borrow.Author.Tests.{eqb-true, not-true}
 use Rattle.json_grammar.specs.Bytes.{isWs}
-use Rattle.json_grammar.specs.Value.{LValue, LItem}
+use Rattle.json_grammar.specs.Value.{LValue, LItem, LMembers}
 use Rattle.json_grammar.specs.Grammar.{Many, none, more, Ws, yieldMany}
-use Rattle.json_grammar.specs.Reader.{Got, bad, got, then, over, past, one-by, one, expect, skip, ws, word, deeper, placedItem, readValue, ends-by}
+use Rattle.json_grammar.specs.Reader.{Got, bad, got, then, over, past, one-by, one, expect, skip, ws, word, deeper, placedItem, readValue, readObject, ends-by, read}
 
 pub no-bad : {A B : Type 0} {a : A} {r : List ℕ} → bad ≡ got a r → B
 no-bad e = absurd (let z : _≡_ {A = ℕ} 0 1 = cc in omega arith)
@@ -45,9 +46,19 @@ pub placed-inv : (f : List ℕ) (g : Got LValue) (v : LItem) (r : List ℕ) → 
 placed-inv f bad v r e = no-bad e
 placed-inv f (got a y) v r e = (a, y, refl, cc)
 
-pub ends-inv : {A : Type 0} (a : A) (s : List ℕ) (b : A) (r : List ℕ) → ends-by a s ≡ got b r → (s ≡ []) × (r ≡ [])
+ends-inv : {A : Type 0} (a : A) (s : List ℕ) (b : A) (r : List ℕ) → ends-by a s ≡ got b r → (s ≡ []) × (a ≡ b)
 ends-inv a [] b r e = (refl, cc)
 ends-inv a (x ∷ s) b r e = no-bad e
+
+-- a text: a brace, the rest of the object, and nothing but white space
+pub read-inv : (d : ℕ) (s : List ℕ) (ms : LMembers) (r : List ℕ) → read d s ≡ got ms r
+    → (x : List ℕ) × (y : List ℕ) × (ws s ≡ 0x7B ∷ x) × (readObject (length s) d x ≡ got ms y) × (ws y ≡ [])
+unfolding read
+read-inv d s ms r e =
+    let i = expect-inv 0x7B (ws s) (λ x. then (readObject (length s) d x) (λ ns y. ends-by ns (ws y))) ms r e in
+    let j = then-inv (readObject (length s) d (i .0)) (λ ns y. ends-by ns (ws y)) ms r (i .2) in
+    let f = ends-inv (j .0) (ws (j .1)) ms r (j .3) in
+    (i .0, j .1, i .1, j .2 ∙ ap (λ (ns : LMembers). got ns (j .1)) (f .1), f .0)
 
 pub word-inv : (xs s r : List ℕ) → word xs s ≡ past r → s ≡ xs ++ r
 unfolding word

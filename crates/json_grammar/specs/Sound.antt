@@ -1,16 +1,13 @@
 -- What the reader reads, the grammar derives, within the depth, with the located members that the reader gives.
-use mathlib.Core.Path.{_≡_, refl, sym, ap, _∙_}
-use mathlib.Core.Bool.{Bool, true, false}
+use mathlib.Core.Path.{_≡_, sym, ap, _∙_}
 use mathlib.Core.List.{List, [], _∷_, _++_}
-use mathlib.Core.Logic.{_⊎_, inl, inr, ⊎-elim}
+use mathlib.Core.Logic.{_⊎_, ⊎-elim}
 use Prim.Native.Nat.{ℕ, zero, suc, _≤_}
 use native.Mathlib.Omega.{arith}
-use lib.Dec.{eqb}
 use lib.ListN.{length}
-use borrow.Author.Tests.{eqb-true}
 use Rattle.json_grammar.specs.Bytes.{isWs}
 use Rattle.json_grammar.specs.Value.{depth, depthValues, depthMembers, LValue, LItem, LItems, LMembers, stringL, numberL, trueL, falseL, nullL}
-use Rattle.json_grammar.specs.Value.{arrayL, objectL, inil, icons, named, lnil, lcons}
+use Rattle.json_grammar.specs.Value.{arrayL, objectL, inil, lnil}
 use Rattle.json_grammar.specs.Grammar.{none, Ws, Token, Chars, ValueTree, falseT, nullT, trueT, objectT, arrayT, numberT, stringT}
 use Rattle.json_grammar.specs.Grammar.{ObjectTree, object0, objectOf, MemberTree, pair, MembersTail, mend, mmore, ArrayTree, array0, arrayOf}
 use Rattle.json_grammar.specs.Grammar.{ElementsTail, eend, emore, Derivation}
@@ -18,12 +15,13 @@ use Rattle.json_grammar.specs.Grammar.{yieldMany, yieldToken, yieldChars
 use Rattle.json_grammar.specs.Grammar.{yieldMembers, yieldArray, yieldElements, bytes}
 use Rattle.json_grammar.specs.Grammar.{readingValue, readingObject, readingMember, readingMembers, readingArray, readingElements, readingOf}
 use Rattle.json_grammar.specs.Grammar.{depthOf, membersOf}
-use Rattle.json_grammar.specs.Reader.{got, then, over, expect, ws, readChars, pastNumber, upTo, readNumber, word, ValueLead, valueLead, ends-by}
+use Rattle.json_grammar.specs.Reader.{got, over, ws, readChars, pastNumber, upTo, readNumber, word, ValueLead, valueLead}
 use Rattle.json_grammar.specs.Reader.{readObject, readValue, readMoreElements, readMoreMembers, read}
 use Rattle.json_grammar.specs.Reader
 use Rattle.json_grammar.specs.ByteLaws.{by-byte}
-use Rattle.json_grammar.specs.ReaderLaws.{no-bad, then-inv, over-inv, expect-inv, deeper-inv, placed-inv, ends-inv, word-inv, skipped, readValue-ws}
-use Rattle.json_grammar.specs.Levels.{readBare, readElements, readInArray, readMember, readMembers, readInObject}
+use Rattle.json_grammar.specs.ReaderLaws.{no-bad, then-inv, over-inv, deeper-inv, placed-inv, read-inv, word-inv, skipped, readValue-ws}
+use Rattle.json_grammar.specs.Sequences.{members, elements, list-inv, inside-inv, more-inv, member-inv}
+use Rattle.json_grammar.specs.Levels.{readBare, readElements, readInArray, readMembers, readInObject}
 use Rattle.json_grammar.specs.NumberLaws.{number-sound}
 use Rattle.json_grammar.specs.CharLaws.{chars-sound}
 use Rattle.json_grammar.specs.Complete.{depthMember, member-depth, complete}
@@ -98,9 +96,8 @@ record Below (n : ℕ) : Type 0 where
 module _ (n : ℕ) (below : Below n) where
   elements-sound : (d : ℕ) (s : List ℕ) (vs : LItems) (r : List ℕ) → readElements n d s ≡ got vs r → FirstElement d s r
   elements-sound d s vs r e =
-      let i = then-inv (readValue n d s) (λ v y. over (icons v) (readMoreElements n d y)) vs r e in
-      let j = over-inv (icons (i .0)) (readMoreElements n d (i .1)) vs r (i .3) in
-      join (i .1) (below .value d s (i .0) (i .1) (i .2)) (λ w. below .elements d w (i .1) (j .0) r (j .1))
+      let i = list-inv elements n d s vs r e in
+      join (i .1) (below .value d s (i .0) (i .1) (i .3)) (λ w. below .elements d w (i .1) (i .2) r (i .4))
     where
       join : (y : List ℕ) → FoundValue d s y → ((w : Ws) → FoundElements d w y r) → FirstElement d s r
       join y a f =
@@ -118,17 +115,10 @@ module _ (n : ℕ) (below : Below n) where
   members-sound : (d : ℕ) (s : List ℕ) (ms : LMembers) (r : List ℕ) → readMembers n d s ≡ got ms r → FirstMember d s r
   unfolding depthMembers readingMember yieldMember yieldString yieldToken
   members-sound d s ms r e =
-      let i = then-inv (readMember n d s) (λ m y. over (lcons m) (readMoreMembers n d y)) ms r e in
-      let j = over-inv (lcons (i .0)) (readMoreMembers n d (i .1)) ms r (i .3) in
-      let m = i .0 in
-      let y = i .1 in
-      let k₁ = expect-inv 0x22 s (λ f. then (readChars n f) (λ cs z. expect 0x3A (ws z) (λ x. over (named f (0x22 ∷ z) cs) (readValue n d x)))) m y (i .2) in
-      let f = k₁ .0 in
-      let k₂ = then-inv (readChars n f) (λ cs z. expect 0x3A (ws z) (λ x. over (named f (0x22 ∷ z) cs) (readValue n d x))) m y (k₁ .2) in
-      let k₃ = expect-inv 0x3A (ws (k₂ .1)) (λ x. over (named f (0x22 ∷ k₂ .1) (k₂ .0)) (readValue n d x)) m y (k₂ .3) in
-      let k₄ = over-inv (named f (0x22 ∷ k₂ .1) (k₂ .0)) (readValue n d (k₃ .0)) m y (k₃ .2) in
-      join f (k₂ .1) (k₃ .0) y (k₁ .1) (chars-sound n f (k₂ .0) (k₂ .1) (k₂ .2)) (k₃ .1)
-      (below .value d (k₃ .0) (k₄ .0) y (k₄ .1)) (λ w. below .members d w y (j .0) r (j .1))
+      let i = list-inv members n d s ms r e in
+      let m = member-inv n d s (i .0) (i .1) (i .3) in
+      join (m .name) (m .closed) (m .colon) (i .1) (m .opens) (chars-sound n (m .name) (m .codes) (m .closed) (m .chars)) (m .parts)
+      (below .value d (m .colon) (m .value) (i .1) (m .reads)) (λ w. below .members d w (i .1) (i .2) r (i .4))
     where
       join : (f z x y : List ℕ) → s ≡ 0x22 ∷ f → (cs : Chars) × (f ≡ yieldChars cs (0x22 ∷ z)) → ws z ≡ 0x3A ∷ x
           → FoundValue d x y → ((w : Ws) → FoundMembers d w y r) → FirstMember d s r
@@ -147,20 +137,12 @@ module _ (n : ℕ) (below : Below n) where
           }
 
   -- an array from its first bracket on, an object from its first brace on
-  array-inv : (d : ℕ) (s : List ℕ) (vs : LItems) (r : List ℕ) → readInArray n d s ≡ got vs r → (s ≡ 0x5D ∷ r) ⊎ (readElements n d s ≡ got vs r)
-  array-inv d [] vs r e = no-bad e
-  array-inv d (b ∷ s) vs r e = go (eqb b 0x5D) refl
-    where
-      go : (t : Bool) → eqb b 0x5D ≡ t → (b ∷ s ≡ 0x5D ∷ r) ⊎ (readElements n d (b ∷ s) ≡ got vs r)
-      go true h = let z = eqb-true b 0x5D h in let f : got inil s ≡ got vs r = rw h at e in inl (cc (z, f))
-      go false h = inr (rw h at e)
-
   array-sound : (d : ℕ) (s : List ℕ) (vs : LItems) (r : List ℕ) → readInArray n d (ws s) ≡ got vs r → FoundArray d (0x5B ∷ s) r
   unfolding yieldArray yieldToken yieldMany readingArray depthValues
-  array-sound d s vs r e = ⊎-elim empty some (array-inv d (ws s) vs r e)
+  array-sound d s vs r e = ⊎-elim empty some (inside-inv elements n d (ws s) vs r e)
     where
-      empty : ws s ≡ 0x5D ∷ r → FoundArray d (0x5B ∷ s) r
-      empty p = (array0 (record { before = none; after = skipped isWs s .0 }) (closing none), ap (λ (l : List ℕ). 0x5B ∷ l) (spaced s (0x5D ∷ r) p), omega arith)
+      empty : (ws s ≡ 0x5D ∷ r) × (vs ≡ inil) → FoundArray d (0x5B ∷ s) r
+      empty p = (array0 (record { before = none; after = skipped isWs s .0 }) (closing none), ap (λ (l : List ℕ). 0x5B ∷ l) (spaced s (0x5D ∷ r) (p .0)), omega arith)
 
       some : readElements n d (ws s) ≡ got vs r → FoundArray d (0x5B ∷ s) r
       some f =
@@ -170,23 +152,15 @@ module _ (n : ℕ) (below : Below n) where
             omega (arith, a .first-deep, a .deep),
           )
 
-  object-inv : (d : ℕ) (s : List ℕ) (ms : LMembers) (r : List ℕ) → readInObject n d s ≡ got ms r → (s ≡ 0x7D ∷ r) ⊎ (readMembers n d s ≡ got ms r)
-  object-inv d [] ms r e = no-bad e
-  object-inv d (b ∷ s) ms r e = go (eqb b 0x7D) refl
-    where
-      go : (t : Bool) → eqb b 0x7D ≡ t → (b ∷ s ≡ 0x7D ∷ r) ⊎ (readMembers n d (b ∷ s) ≡ got ms r)
-      go true h = let z = eqb-true b 0x7D h in let f : got lnil s ≡ got ms r = rw h at e in inl (cc (z, f))
-      go false h = inr (rw h at e)
-
   object-sound : (d : ℕ) (s : List ℕ) (ms : LMembers) (r : List ℕ) → readInObject n d (ws s) ≡ got ms r → FoundObject d (0x7B ∷ s) r
   unfolding yieldObject yieldToken yieldMany readingObject depthMembers
-  object-sound d s ms r e = ⊎-elim empty some (object-inv d (ws s) ms r e)
+  object-sound d s ms r e = ⊎-elim empty some (inside-inv members n d (ws s) ms r e)
     where
       w : Ws
       w = skipped isWs s .0
 
-      empty : ws s ≡ 0x7D ∷ r → FoundObject d (0x7B ∷ s) r
-      empty p = (object0 (record { before = none; after = w }) (closing none), ap (λ (l : List ℕ). 0x7B ∷ l) (spaced s (0x7D ∷ r) p), omega arith)
+      empty : (ws s ≡ 0x7D ∷ r) × (ms ≡ lnil) → FoundObject d (0x7B ∷ s) r
+      empty p = (object0 (record { before = none; after = w }) (closing none), ap (λ (l : List ℕ). 0x7B ∷ l) (spaced s (0x7D ∷ r) (p .0)), omega arith)
 
       some : readMembers n d (ws s) ≡ got ms r → FoundObject d (0x7B ∷ s) r
       some f =
@@ -247,48 +221,38 @@ module _ (n : ℕ) (below : Below n) where
           (numberT (x .0), x .1 ∙ ap (yieldNumber (x .0)) z, omega arith)
 
   more-elements-sound : (d : ℕ) (w : Ws) (s : List ℕ) (vs : LItems) (r : List ℕ) → readMoreElements (suc n) d s ≡ got vs r → FoundElements d w s r
-  unfolding readMoreElements readingElements depthValues yieldElements yieldToken yieldMany
-  more-elements-sound d w [] vs r e = no-bad e
-  more-elements-sound d w (b ∷ s) vs r e = go (eqb b 0x5D) refl (eqb b 0x2C) refl
+  unfolding readingElements depthValues yieldElements yieldToken yieldMany
+  more-elements-sound d w s vs r e = ⊎-elim last next (more-inv elements n d s vs r e)
     where
-      next : b ≡ 0x2C → FirstElement d s r → FoundElements d w (b ∷ s) r
-      next z a =
+      last : (s ≡ 0x5D ∷ r) × (vs ≡ inil) → FoundElements d w s r
+      last p = record { tree = eend; last = w; derives = ap (yieldMany w) (p .0); deep = omega arith }
+
+      next : (y : List ℕ) × (s ≡ 0x2C ∷ y) × (readElements n d (ws y) ≡ got vs r) → FoundElements d w s r
+      next p =
+          let a = elements-sound d (p .0) vs r (rw (readValue-ws n d (p .0)) at (p .2)) in
           record {
             tree = emore (record { before = w; after = a .before }) (a .first) (a .tree);
             last = a .last;
-            derives = ap (yieldMany w) (cc (z, a .derives));
+            derives = ap (yieldMany w) (p .1 ∙ ap (λ (l : List ℕ). 0x2C ∷ l) (a .derives));
             deep = omega (arith, a .first-deep, a .deep);
           }
 
-      go : (t : Bool) → eqb b 0x5D ≡ t → (u : Bool) → eqb b 0x2C ≡ u → FoundElements d w (b ∷ s) r
-      go true h u k =
-          let z = eqb-true b 0x5D h in
-          let f : got inil s ≡ got vs r = rw h at e in
-          record { tree = eend; last = w; derives = ap (yieldMany w) (cc (z, f)); deep = omega arith }
-      go false h true k = next (eqb-true b 0x2C k) (elements-sound d s vs r (rw (h, k) at e))
-      go false h false k = no-bad (rw (h, k) at e)
-
   more-members-sound : (d : ℕ) (w : Ws) (s : List ℕ) (ms : LMembers) (r : List ℕ) → readMoreMembers (suc n) d s ≡ got ms r → FoundMembers d w s r
-  unfolding readMoreMembers readingMembers depthMembers yieldMembers yieldToken yieldMany
-  more-members-sound d w [] ms r e = no-bad e
-  more-members-sound d w (b ∷ s) ms r e = go (eqb b 0x7D) refl (eqb b 0x2C) refl
+  unfolding readingMembers depthMembers yieldMembers yieldToken yieldMany
+  more-members-sound d w s ms r e = ⊎-elim last next (more-inv members n d s ms r e)
     where
-      next : b ≡ 0x2C → FirstMember d (ws s) r → FoundMembers d w (b ∷ s) r
-      next z a =
+      last : (s ≡ 0x7D ∷ r) × (ms ≡ lnil) → FoundMembers d w s r
+      last p = record { tree = mend; last = w; derives = ap (yieldMany w) (p .0); deep = omega arith }
+
+      next : (y : List ℕ) × (s ≡ 0x2C ∷ y) × (readMembers n d (ws y) ≡ got ms r) → FoundMembers d w s r
+      next p =
+          let a = members-sound d (ws (p .0)) ms r (p .2) in
           record {
-            tree = mmore (record { before = w; after = skipped isWs s .0 }) (a .first) (a .tree);
+            tree = mmore (record { before = w; after = skipped isWs (p .0) .0 }) (a .first) (a .tree);
             last = a .last;
-            derives = ap (yieldMany w) (cc (z, spaced s _ (a .derives)));
+            derives = ap (yieldMany w) (p .1 ∙ ap (λ (l : List ℕ). 0x2C ∷ l) (spaced (p .0) _ (a .derives)));
             deep = omega (arith, member-depth (a .first) (readingMembers (a .tree)), a .first-deep, a .deep);
           }
-
-      go : (t : Bool) → eqb b 0x7D ≡ t → (u : Bool) → eqb b 0x2C ≡ u → FoundMembers d w (b ∷ s) r
-      go true h u k =
-          let z = eqb-true b 0x7D h in
-          let f : got lnil s ≡ got ms r = rw h at e in
-          record { tree = mend; last = w; derives = ap (yieldMany w) (cc (z, f)); deep = omega arith }
-      go false h true k = next (eqb-true b 0x2C k) (members-sound d (ws s) ms r (rw (h, k) at e))
-      go false h false k = no-bad (rw (h, k) at e)
 
   spaced-value-sound : (d : ℕ) (s : List ℕ) (v : LItem) (r : List ℕ) → readValue (suc n) d s ≡ got v r → FoundValue d s r
   unfolding readValue
@@ -315,15 +279,13 @@ abbrev pub Derived : ℕ → List ℕ → Type 0
 Derived d s = (t : Derivation) × (bytes t ≡ s) × (depthOf t ≤ d)
 
 pub derived : (d : ℕ) (s : List ℕ) (ms : LMembers) (r : List ℕ) → read d s ≡ got ms r → Derived d s
-unfolding read bytes depthOf readingOf depth
+unfolding bytes depthOf readingOf depth
 derived d s ms r e =
     let n = length s in
-    let i = expect-inv 0x7B (ws s) (λ x. then (readObject n d x) (λ ms y. ends-by ms (ws y))) ms r e in
-    let j = then-inv (readObject n d (i .0)) (λ ms y. ends-by ms (ws y)) ms r (i .2) in
-    let k = deeper-inv d (λ e. readInObject n e (ws (i .0))) (j .0) (j .1) (j .2) in
-    let o = object-sound n (levels n) (k .0) (i .0) (j .0) (j .1) (k .2) in
-    let f = ends-inv (j .0) (ws (j .1)) ms r (j .3) in
-    join (i .0) (j .1) (o .0) (i .1) (o .1) (f .0) (omega (arith, o .2, k .1))
+    let i = read-inv d s ms r e in
+    let k = deeper-inv d (λ e. readInObject n e (ws (i .0))) ms (i .1) (i .3) in
+    let o = object-sound n (levels n) (k .0) (i .0) ms (i .1) (k .2) in
+    join (i .0) (i .1) (o .0) (i .2) (o .1) (i .4) (omega (arith, o .2, k .1))
   where
     join : (x y : List ℕ) (o : ObjectTree) → ws s ≡ 0x7B ∷ x → 0x7B ∷ x ≡ yieldObject o y → ws y ≡ [] → suc (depthMembers (readingObject o)) ≤ d → Derived d s
     join x y o p q e k =

@@ -1,8 +1,8 @@
 -- Readings: the tree of values with members in order; its depth, and whether an object has a name twice. Readings with places.
-use mathlib.Core.Bool.{Bool, true, false, _&&_, _||_}
+use mathlib.Core.Bool.{Bool, false, _||_}
 use mathlib.Core.List.{List, [], _∷_}
 use Prim.Native.Nat.{ℕ, suc, max}
-use lib.Dec.{eqb}
+use Rattle.common.specs.Same.{same}
 
 -- a string is its code points after the escapes are resolved, a number its written characters
 mutual
@@ -44,15 +44,9 @@ unfoldable mutual
   depthMembers (mcons n v ms) = max (depth v) (depthMembers ms)
 
 -- Names are equal when their code points are (RFC 7515 section 5.3).
-unfoldable pub eqList : List ℕ → List ℕ → Bool
-eqList [] [] = true
-eqList [] (y ∷ ys) = false
-eqList (x ∷ xs) [] = false
-eqList (x ∷ xs) (y ∷ ys) = eqb x y && eqList xs ys
-
 unfoldable pub among : List ℕ → List (List ℕ) → Bool
 among x [] = false
-among x (y ∷ ys) = eqList x y || among x ys
+among x (y ∷ ys) = same x y || among x ys
 
 -- some name stands twice in a list of names
 unfoldable pub repeated : List (List ℕ) → Bool

@@ -6,10 +6,11 @@ use Prim.Native.Nat.{ℕ, zero, suc, _≤_, _<_, _+_, _-_}
 use native.Mathlib.Omega.{arith}
 use lib.Dec.{eqb}
 use lib.ListN.{length, drop, getD}
-use borrow.Author.Tests.{ne-eqb}
-use Rattle.json_grammar.specs.Value.{LMember, stringL, numberL, trueL, falseL, nullL, arrayL, objectL, item, inil, icons, named, lnil, lcons}
-use Rattle.json_grammar.specs.Reader.{Got, bad, got, over, one-by, expect, ws, upTo, valueLead, numberLead, placedItem, readChars, readValue, readMoreElements, readMoreMembers}
-use Rattle.json_grammar.specs.Levels.{readInArray, readMembers, readInObject}
+use borrow.Author.Tests.{eq-eqb, ne-eqb}
+use Rattle.json_grammar.specs.Value.{LMember, stringL, numberL, trueL, falseL, nullL, arrayL, objectL, item, named}
+use Rattle.json_grammar.specs.Reader.{Got, bad, got, over, one-by, expect, ws, deeper, upTo, valueLead, numberLead, placedItem, readChars, readValue, readMoreElements, readMoreMembers}
+use Rattle.json_grammar.specs.Sequences.{Sequence, listed, members, elements}
+use Rattle.json_grammar.specs.Levels.{readMembers}
 use Rattle.json_string.specs.declared.End.{End}
 use Rattle.json_string.specs.declared.End.the-variants.{At, Bad}
 use Rattle.json_string.specs.Ends.{by, shorter}
@@ -18,99 +19,56 @@ use Rattle.json_reader.specs.Contracts.{EndsBy, SkipsTo, WordEnds, Numbe
 use Rattle.json_reader.specs.Contracts.{readTrimmed}
 use Rattle.json_reader.specs.EndsLaws.{given, none, bounds, earlier, same, wrong, out, first, first-below, first-same, first-only, first-bad, bind, bind-bad, map, renamed, moved, deepened}
 
--- ELEMENTS: value *( value-separator value ) end-array
+-- SEQUENCES, of elements and of members: one or more with commas between them, and the closing byte
 
-no-elements : (d n : ℕ) → readMoreElements n d [] ≡ bad
+module _ {A B : Type 0} {nothing : A} {cons : B → A → A} {one : ℕ → ℕ → List ℕ → Got B} {inside more : ℕ → ℕ → List ℕ → Got A} {close : ℕ}
+    (q : Sequence nothing cons one inside more close) {s : List ℕ} where
+  module _ {at e : ℕ} (d : ℕ) (h : EndsBy (λ n x. one n d x) s at at (At e)) where
+    one-read : {r : End} → EndsBy (λ n x. more n d x) s e e r → EndsBy (λ n x. listed cons one more n d x) s at at r
+    one-read k = bind (omega arith) (λ x b n y. over (cons b) (more n d y)) h (λ b. map (λ n x. cons b) k)
+
+    pub list-close : e < length s → getD s e 0 ≡ close → EndsBy (λ n x. listed cons one more n d x) s at at (At (e + 1))
+    list-close k b = one-read (first-only k (omega arith) nothing (λ n. q .more-none n d (getD s e 0) (drop (e + 1) s) (eq-eqb (getD s e 0) close b)))
+
+    pub list-other : e < length s → (getD s e 0 ≡ close → ⊥) → (getD s e 0 ≡ 0x2C → ⊥) → EndsBy (λ n x. listed cons one more n d x) s at at Bad
+    list-other k b c =
+        one-read (first-bad k (omega arith) (λ n. q .more-other n d (getD s e 0) (drop (e + 1) s) (ne-eqb (getD s e 0) close b) (ne-eqb (getD s e 0) 0x2C c)))
+
+    pub list-out : length s ≤ e → EndsBy (λ n x. listed cons one more n d x) s at at Bad
+    list-out k = one-read (out k (λ n. q .more-out n d))
+
+  pub list-bad : {at : ℕ} (d : ℕ) → EndsBy (λ n x. one n d x) s at at Bad → EndsBy (λ n x. listed cons one more n d x) s at at Bad
+  list-bad d h = bind-bad (omega arith) (λ x b n y. over (cons b) (more n d y)) h
+
+  -- past the opening byte
+  pub opened-deep : {from : ℕ} (d : ℕ) → d ≡ 0 → EndsBy (λ n x. deeper d (λ e. inside n e (ws x))) s from from Bad
+  opened-deep d e = wrong (λ n. rw e)
+
+  module _ {from at : ℕ} (d : ℕ) (z : d ≡ 0 → ⊥) (k : SkipsTo s from at) where
+    opened : {r : End} → EndsBy (λ n x. inside n (d - 1) x) s at from r → EndsBy (λ n x. deeper d (λ e. inside n e (ws x))) s from from r
+    opened h = deepened (λ e n x. inside n e (ws x)) d z (moved (λ n x. inside n (d - 1) x) k h)
+
+    pub opened-empty : at < length s → getD s at 0 ≡ close → EndsBy (λ n x. deeper d (λ e. inside n e (ws x))) s from from (At (at + 1))
+    opened-empty h b =
+        opened (first-only h (omega (arith, k .low)) nothing (λ n. q .inside-none (suc n) (d - 1) (getD s at 0) (drop (at + 1) s) (eq-eqb (getD s at 0) close b)))
+
+    pub opened-some : {r : End} → at < length s → (getD s at 0 ≡ close → ⊥)
+        → EndsBy (λ n x. listed cons one more n (d - 1) x) s at at r → EndsBy (λ n x. deeper d (λ e. inside n e (ws x))) s from from r
+    opened-some h b rest =
+        opened (first-same h (omega (arith, k .low)) (λ n. q .inside-some (suc n) (d - 1) (getD s at 0) (drop (at + 1) s) (ne-eqb (getD s at 0) close b)) (earlier (k .low) rest))
+
+    pub opened-out : length s ≤ at → EndsBy (λ n x. deeper d (λ e. inside n e (ws x))) s from from Bad
+    opened-out h = opened (out h (λ n. q .inside-out n (d - 1)))
+
+-- a comma: a value passes over the white space before it, a member doesn't
+pub elements-comma : {s : List ℕ} {at e : ℕ} {r : End} (d : ℕ) → ValueEnds s at d (At e) → e < length s → getD s e 0 ≡ 0x2C → ElementsEnd s (e + 1) d r → ElementsEnd s at d r
 unfolding readMoreElements
-no-elements d zero = refl
-no-elements d (suc n) = refl
+elements-comma d h k b rest = one-read elements d h (first-below k (omega arith) (λ n. rw b) rest)
 
-module _ {s : List ℕ} {at e : ℕ} (d : ℕ) (h : ValueEnds s at d (At e)) where
-  element : {r : End} → EndsBy (λ n x. readMoreElements n d x) s e e r → ElementsEnd s at d r
-  element k = bind (omega arith) (λ x v n y. over (icons v) (readMoreElements n d y)) h (λ v. map (λ n x. icons v) k)
-
-  pub elements-close : e < length s → getD s e 0 ≡ 0x5D → ElementsEnd s at d (At (e + 1))
-  unfolding readMoreElements
-  elements-close k b = element (first-only k (omega arith) inil (λ n. rw b))
-
-  pub elements-comma : {r : End} → e < length s → getD s e 0 ≡ 0x2C → ElementsEnd s (e + 1) d r → ElementsEnd s at d r
-  unfolding readMoreElements
-  elements-comma k b rest = element (first-below k (omega arith) (λ n. rw b) rest)
-
-  pub elements-other : e < length s → (getD s e 0 ≡ 0x5D → ⊥) → (getD s e 0 ≡ 0x2C → ⊥) → ElementsEnd s at d Bad
-  unfolding readMoreElements
-  elements-other k b c = element (first-bad k (omega arith) (λ n. rw (ne-eqb (getD s e 0) 0x5D b, ne-eqb (getD s e 0) 0x2C c)))
-
-  pub elements-out : length s ≤ e → ElementsEnd s at d Bad
-  elements-out k = element (out k (no-elements d))
-
-pub elements-bad : {s : List ℕ} {at : ℕ} (d : ℕ) → ValueEnds s at d Bad → ElementsEnd s at d Bad
-elements-bad d h = bind-bad (omega arith) (λ x v n y. over (icons v) (readMoreElements n d y)) h
-
--- ARRAYS: past the bracket
-
-pub array-deep : {s : List ℕ} {from : ℕ} (d : ℕ) → d ≡ 0 → ArrayEnds s from d Bad
-array-deep d e = wrong (λ n. rw e)
-
-module _ {s : List ℕ} {from at : ℕ} (d : ℕ) (z : d ≡ 0 → ⊥) (k : SkipsTo s from at) where
-  in-array : {r : End} → EndsBy (λ n x. readInArray n (d - 1) x) s at from r → ArrayEnds s from d r
-  in-array h = deepened (λ e n x. readInArray n e (ws x)) d z (moved (λ n x. readInArray n (d - 1) x) k h)
-
-  pub array-empty : at < length s → getD s at 0 ≡ 0x5D → ArrayEnds s from d (At (at + 1))
-  array-empty h b = in-array (first-only h (omega (arith, k .low)) inil (λ n. rw b))
-
-  pub array-elements : {r : End} → at < length s → (getD s at 0 ≡ 0x5D → ⊥) → ElementsEnd s at (d - 1) r → ArrayEnds s from d r
-  array-elements h b rest = in-array (first-same h (omega (arith, k .low)) (λ n. rw (ne-eqb (getD s at 0) 0x5D b)) (earlier (k .low) rest))
-
-  pub array-out : length s ≤ at → ArrayEnds s from d Bad
-  array-out h = in-array (out h (λ n. refl))
-
--- MEMBERS: member *( value-separator member ) end-object
-
-no-members : (d n : ℕ) → readMoreMembers n d [] ≡ bad
+pub members-comma : {s : List ℕ} {at e j : ℕ} {r : End} (d : ℕ) → MemberEnds s at d (At e) → e < length s → getD s e 0 ≡ 0x2C → SkipsTo s (e + 1) j → MembersEnd s j d r
+    → MembersEnd s at d r
 unfolding readMoreMembers
-no-members d zero = refl
-no-members d (suc n) = refl
-
-module _ {s : List ℕ} {at e : ℕ} (d : ℕ) (h : MemberEnds s at d (At e)) where
-  one-member : {r : End} → EndsBy (λ n x. readMoreMembers n d x) s e e r → MembersEnd s at d r
-  one-member k = bind (omega arith) (λ x m n y. over (lcons m) (readMoreMembers n d y)) h (λ m. map (λ n x. lcons m) k)
-
-  pub members-close : e < length s → getD s e 0 ≡ 0x7D → MembersEnd s at d (At (e + 1))
-  unfolding readMoreMembers
-  members-close k b = one-member (first-only k (omega arith) lnil (λ n. rw b))
-
-  pub members-comma : {j : ℕ} {r : End} → e < length s → getD s e 0 ≡ 0x2C → SkipsTo s (e + 1) j → MembersEnd s j d r → MembersEnd s at d r
-  unfolding readMoreMembers
-  members-comma k b w rest = one-member (first-below k (omega arith) (λ n. rw b) (moved (λ n x. readMembers n d x) w (earlier (w .low) rest)))
-
-  pub members-other : e < length s → (getD s e 0 ≡ 0x7D → ⊥) → (getD s e 0 ≡ 0x2C → ⊥) → MembersEnd s at d Bad
-  unfolding readMoreMembers
-  members-other k b c = one-member (first-bad k (omega arith) (λ n. rw (ne-eqb (getD s e 0) 0x7D b, ne-eqb (getD s e 0) 0x2C c)))
-
-  pub members-out : length s ≤ e → MembersEnd s at d Bad
-  members-out k = one-member (out k (no-members d))
-
-pub members-bad : {s : List ℕ} {at : ℕ} (d : ℕ) → MemberEnds s at d Bad → MembersEnd s at d Bad
-members-bad d h = bind-bad (omega arith) (λ x m n y. over (lcons m) (readMoreMembers n d y)) h
-
--- OBJECTS: past the brace
-
-pub object-deep : {s : List ℕ} {from : ℕ} (d : ℕ) → d ≡ 0 → ObjectEnds s from d Bad
-object-deep d e = wrong (λ n. rw e)
-
-module _ {s : List ℕ} {from at : ℕ} (d : ℕ) (z : d ≡ 0 → ⊥) (k : SkipsTo s from at) where
-  in-object : {r : End} → EndsBy (λ n x. readInObject n (d - 1) x) s at from r → ObjectEnds s from d r
-  in-object h = deepened (λ e n x. readInObject n e (ws x)) d z (moved (λ n x. readInObject n (d - 1) x) k h)
-
-  pub object-empty : at < length s → getD s at 0 ≡ 0x7D → ObjectEnds s from d (At (at + 1))
-  object-empty h b = in-object (first-only h (omega (arith, k .low)) lnil (λ n. rw b))
-
-  pub object-members : {r : End} → at < length s → (getD s at 0 ≡ 0x7D → ⊥) → MembersEnd s at (d - 1) r → ObjectEnds s from d r
-  object-members h b rest = in-object (first-same h (omega (arith, k .low)) (λ n. rw (ne-eqb (getD s at 0) 0x7D b)) (earlier (k .low) rest))
-
-  pub object-out : length s ≤ at → ObjectEnds s from d Bad
-  object-out h = in-object (out h (λ n. refl))
+members-comma d h k b w rest = one-read members d h (first-below k (omega arith) (λ n. rw b) (moved (λ n x. readMembers n d x) w (earlier (w .low) rest)))
 
 -- A MEMBER: a string, a colon and a value
 

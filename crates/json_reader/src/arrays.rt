@@ -8,7 +8,7 @@ ghost use Rattle.json_reader.specs.Contracts.{ArrayEnds, ElementsEnd};
 
 // What follows an opening bracket, up to the closing one.
 // Rules out a bracket that counts for no level, and an array that a brace closes.
-pub fn array(s: &[u8], from: usize, depth: usize) -> End
+pub(crate) fn array(s: &[u8], from: usize, depth: usize) -> End
     requires { ⌜ from ≤ length (now s) ⌝ }
     ensures { λ r. ⌜ ArrayEnds (now (s .entry)) from depth r ⌝ }
 {
@@ -27,7 +27,7 @@ pub fn array(s: &[u8], from: usize, depth: usize) -> End
 
 // One element or more, and the closing bracket.
 // Rules out a comma before the closing bracket, and elements with no comma between them.
-pub fn elements(s: &[u8], from: usize, depth: usize) -> End
+pub(crate) fn elements(s: &[u8], from: usize, depth: usize) -> End
     requires { ⌜ from ≤ length (now s) ⌝ }
     ensures { λ r. ⌜ ElementsEnd (now (s .entry)) from depth r ⌝ }
 {

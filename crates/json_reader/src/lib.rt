@@ -8,15 +8,9 @@ mod objects; // objects.rt: objects
 mod values; // values.rt: values, and the place of a member's value
 mod texts; // texts.rt: the whole text
 
-pub use arrays::array;
-pub use arrays::elements;
-pub use objects::after_name;
-pub use objects::member;
 pub use objects::member_list;
-pub use objects::object;
 pub use spaces::skip_ws;
 pub use texts::text;
 pub use values::Span;
 pub use values::bare;
-pub use values::value;
 pub use values::value_span;

@@ -9,7 +9,7 @@ ghost use Rattle.json_reader.specs.Contracts.{ObjectEnds, MembersEnd, Me
 
 // What follows an opening brace, up to the closing one.
 // Rules out a brace that counts for no level, and an empty object at depth 0.
-pub fn object(s: &[u8], from: usize, depth: usize) -> End
+pub(crate) fn object(s: &[u8], from: usize, depth: usize) -> End
     requires { ⌜ from ≤ length (now s) ⌝ }
     ensures { λ r. ⌜ ObjectEnds (now (s .entry)) from depth r ⌝ }
 {
@@ -53,7 +53,7 @@ pub fn member_list(s: &[u8], from: usize, depth: usize) -> End
 
 // A member: a string, a colon and a value, with the white space after it.
 // Rules out a name that is no string, and a member that is missing after a comma.
-pub fn member(s: &[u8], from: usize, depth: usize) -> End
+pub(crate) fn member(s: &[u8], from: usize, depth: usize) -> End
     requires { ⌜ from ≤ length (now s) ⌝ }
     ensures { λ r. ⌜ MemberEnds (now (s .entry)) from depth r ⌝ }
 {
@@ -71,7 +71,7 @@ pub fn member(s: &[u8], from: usize, depth: usize) -> End
 
 // What follows a name: a colon and a value.
 // Rules out a comma in the place of the colon, and a name with no value.
-pub fn after_name(s: &[u8], from: usize, depth: usize) -> End
+pub(crate) fn after_name(s: &[u8], from: usize, depth: usize) -> End
     requires { ⌜ from ≤ length (now s) ⌝ }
     ensures { λ r. ⌜ AfterName (now (s .entry)) from depth r ⌝ }
 {

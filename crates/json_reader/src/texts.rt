@@ -6,7 +6,7 @@ ghost use mathlib.Core.Path.{_≡_};
 ghost use Rattle.json_reader.specs.Contracts.{isText};
 
 // Whether s is a text of depth `depth` at most.
-// Rules out yes to a text with bytes after it, and no to one that is exactly `depth` deep.
+// Rules out yes to a text with bytes after its object, and to an array in the object's place.
 pub fn text(s: &[u8], depth: usize) -> bool
     ensures { λ r. ⌜ r ≡ isText depth (now (s .entry)) ⌝ }
 {

@@ -13,7 +13,7 @@ ghost use Rattle.json_reader.specs.Contracts.{ValueEnds, BareEnds, SpanA
 
 // A value, with white space before and after it.
 // Rules out an answer before the white space after the value, and a value that is deeper than `depth`.
-pub fn value(s: &[u8], from: usize, depth: usize) -> End
+pub(crate) fn value(s: &[u8], from: usize, depth: usize) -> End
     requires { ⌜ from ≤ length (now s) ⌝ }
     ensures { λ r. ⌜ ValueEnds (now (s .entry)) from depth r ⌝ }
 {
@@ -28,7 +28,7 @@ pub fn value(s: &[u8], from: usize, depth: usize) -> End
 }
 
 // A value from its first byte on, without the white space after it.
-// Rules out the place after that white space, and a word that is cut short.
+// Rules out a word that is cut short, and an array that is deeper than `depth`.
 pub fn bare(s: &[u8], at: usize, depth: usize) -> End
     requires { ⌜ at < length (now s) ⌝ }
     ensures { λ r. ⌜ BareEnds (now (s .entry)) at depth r ⌝ }
@@ -62,7 +62,7 @@ pub enum Span {
 }
 
 // The place of the value after a name whose closing quotation mark is before q, without the white space around it.
-// Rules out a place that begins at the colon, and one that takes the white space after the value.
+// Rules out a place that begins at the colon, and a comma in the place of the colon.
 pub fn value_span(s: &[u8], q: usize, depth: usize) -> Span
     requires { ⌜ q ≤ length (now s) ⌝ }
     ensures { λ r. ⌜ SpanAt (now (s .entry)) q depth r ⌝ }

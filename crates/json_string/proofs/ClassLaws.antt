@@ -3,15 +3,9 @@ use mathlib.Core.Path.{_≡_, refl, sym, _∙_}
 use mathlib.Core.Bool.{Bool, true, false, _||_}
 use Prim.Native.Nat.{ℕ, _≤_, _<_, _-_}
 use native.Mathlib.Omega.{arith}
-use lib.Dec.{leb}
-use borrow.Author.Tests.{le-leb}
 use Rattle.json_grammar.specs.Bytes.{within, isDigit, isHex, hexVal}
 use Rattle.json_grammar.specs.Reader.{isUnescaped1}
 use Rattle.json_grammar.specs.ByteLaws.{within-true}
-
-pub from-low : (lo hi b : ℕ) → lo ≤ b → leb b hi ≡ within lo hi b
-unfolding within
-from-low lo hi b h = rw (le-leb lo b h)
 
 -- three tests, the last first
 pub unescaped-1 : (b : ℕ) → within 0x5D 0x7F b ≡ true → true ≡ isUnescaped1 b

@@ -1,3 +1,4 @@
+-- Laws for the code's proofs.
 pub mod ClassLaws
 pub mod ScanLaws
 pub mod DigitLaws

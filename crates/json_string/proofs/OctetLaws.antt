@@ -1,6 +1,6 @@
 -- Laws of octets, and of octets that stand in a word.
-use mathlib.Core.Path.{_≡_, refl, sym, ap, _∙_}
-use mathlib.Core.Bool.{false, _&&_, and-false}
+use mathlib.Core.Path.{_≡_, sym, ap, _∙_}
+use mathlib.Core.Bool.{_&&_}
 use mathlib.Core.List.{List, [], _∷_, _++_}
 use Prim.Native.Nat.{ℕ, _+_, _-_, _/_, _≤_, _<_, min}
 use native.Mathlib.Omega.{arith}
@@ -9,7 +9,7 @@ use lib.Dec.{eqb}
 use lib.ListN.{length, take, drop, getD, length-take, length-drop, length-append, drop-of-length-le}
 use lib.Seq.{getD-take}
 use borrow.Author.Tests.{le-leb, lt-leb, eq-eqb, ne-eqb}
-use Rattle.json_grammar.specs.Value.{eqList}
+use Rattle.common.specs.Same.{same, same-longer}
 use Rattle.json_string.specs.declared.End.the-variants.{At, Bad}
 use Rattle.json_string.specs.Ends.{at-byte}
 use Rattle.json_string.specs.Utf8.{tail, octets}
@@ -37,7 +37,7 @@ four-octets c x y z w l e f g h = rw (lt-leb c 0x7F (omega arith), lt-leb c 0x7F
 
 -- the first i of them are as they should be
 pub Passed : List ℕ → ℕ → List ℕ → ℕ → Type 0
-Passed w at bs i = (xs : List ℕ) → eqList (bs ++ xs) (drop at w) ≡ eqList (drop i bs ++ xs) (drop (at + i) w)
+Passed w at bs i = (xs : List ℕ) → same (bs ++ xs) (drop at w) ≡ same (drop i bs ++ xs) (drop (at + i) w)
 
 pub passed-none : (w : List ℕ) (at : ℕ) (bs : List ℕ) → Passed w at bs 0
 unfolding Passed
@@ -45,8 +45,8 @@ passed-none w at bs xs = let e : at + 0 ≡ at = omega arith in rw e
 
 -- the next
 next : (w : List ℕ) (at : ℕ) (bs : List ℕ) (i : ℕ) → i < length bs → at + i < length w → (xs : List ℕ)
-    → eqList (drop i bs ++ xs) (drop (at + i) w) ≡ eqb (getD bs i 0) (getD w (at + i) 0) && eqList (drop (i + 1) bs ++ xs) (drop (at + (i + 1)) w)
-unfolding eqList
+    → same (drop i bs ++ xs) (drop (at + i) w) ≡ eqb (getD bs i 0) (getD w (at + i) 0) && same (drop (i + 1) bs ++ xs) (drop (at + (i + 1)) w)
+unfolding same
 next w at bs i h k xs =
     let e : at + (i + 1) ≡ at + i + 1 = omega arith in
     rw (at-byte bs i h, at-byte w (at + i) k, e)
@@ -58,22 +58,15 @@ octet-at n bytes bs i e h = rw (← e) (getD-take n bytes i 0 h)
 pub prefix-fits : (n : ℕ) (bytes bs : List ℕ) → take n bytes ≡ bs → n ≡ length bs → n ≤ length bytes
 prefix-fits n bytes bs e l = let k : n ≡ min n (length bytes) = l ∙ sym (ap length e) ∙ length-take n bytes in omega (arith, min-le-right n (length bytes))
 
--- a list that is longer is another
-longer : (xs ys : List ℕ) → length ys < length xs → eqList xs ys ≡ false
-unfolding eqList
-longer [] ys h = absurd (omega arith)
-longer (x ∷ xs) [] h = refl
-longer (x ∷ xs) (y ∷ ys) h = rw (longer xs ys (omega arith), and-false (eqb x y))
-
 module _ (w : List ℕ) (at c : ℕ) where
   pub octets-short : length w - at < length (octets c) → OctetsEnd w at c Bad
   unfolding OctetsEnd
-  octets-short h xs = longer (octets c ++ xs) (drop at w) (omega (arith, length-append (octets c) xs, length-drop at w))
+  octets-short h xs = same-longer (octets c ++ xs) (drop at w) (omega (arith, length-append (octets c) xs, length-drop at w))
 
   module _ (i : ℕ) (p : Passed w at (octets c) i) where
     pub octets-all : (n : ℕ) → i ≡ n → n ≡ length (octets c) → at + n ≤ length w → OctetsEnd w at c (At (at + n))
     unfolding OctetsEnd Passed
-    octets-all n e l h = (omega arith, h, λ xs. p xs ∙ rw e (ap (λ (o : List ℕ). eqList (o ++ xs) (drop (at + n) w)) (drop-of-length-le (octets c) {i = n} (omega arith))))
+    octets-all n e l h = (omega arith, h, λ xs. p xs ∙ rw e (ap (λ (o : List ℕ). same (o ++ xs) (drop (at + n) w)) (drop-of-length-le (octets c) {i = n} (omega arith))))
 
     module _ (h : i < length (octets c)) (k : at + i < length w) where
       pub passed-next : getD w (at + i) 0 ≡ getD (octets c) i 0 → Passed w at (octets c) (i + 1)

@@ -7,7 +7,7 @@ use native.Mathlib.Omega.{arith}
 use lib.Dec.{eqb}
 use lib.ListN.{length, drop, getD, drop-of-length-le}
 use borrow.Author.Tests.{eq-eqb, ne-eqb, eqb-true, eqb-false}
-use Rattle.json_grammar.specs.Value.{eqList}
+use Rattle.common.specs.Same.{same}
 use Rattle.json_grammar.specs.Reader.{Got, got, then, over, readChar, readChars}
 use Rattle.json_grammar.specs.ReaderLaws.{no-bad, then-inv, over-inv}
 use Rattle.json_string.specs.declared.End.{End}
@@ -79,20 +79,20 @@ module _ (s : List ℕ) (i j : ℕ) where
 
   module _ (h : i < length s) (h′ : j < length s) where
     pub same-quote-i : getD s i 0 ≡ 0x22 → SameText s i j (eqb (getD s j 0) 0x22)
-    unfolding SameText eqList
+    unfolding SameText same
     same-quote-i b cs ds k l = go (eqb (getD s j 0) 0x22) refl
       where
         ec : cs ≡ []
         ec = name-quote s i cs h b k
 
-        go : (t : Bool) → eqb (getD s j 0) 0x22 ≡ t → eqb (getD s j 0) 0x22 ≡ eqList cs ds
-        go true e = e ∙ sym (ap₂ eqList ec (name-quote s j ds h′ (eqb-true (getD s j 0) 0x22 e) l))
-        go false e = let a = name-some s j ds h′ (eqb-false (getD s j 0) 0x22 e) l in e ∙ sym (ap₂ eqList ec (sym (a .2)))
+        go : (t : Bool) → eqb (getD s j 0) 0x22 ≡ t → eqb (getD s j 0) 0x22 ≡ same cs ds
+        go true e = e ∙ sym (ap₂ same ec (name-quote s j ds h′ (eqb-true (getD s j 0) 0x22 e) l))
+        go false e = let a = name-some s j ds h′ (eqb-false (getD s j 0) 0x22 e) l in e ∙ sym (ap₂ same ec (sym (a .2)))
 
     module _ (b : getD s i 0 ≡ 0x22 → ⊥) where
       pub same-quote-j : getD s j 0 ≡ 0x22 → SameText s i j false
-      unfolding SameText eqList
-      same-quote-j b′ cs ds k l = let a = name-some s i cs h b k in sym (ap₂ eqList (sym (a .2)) (name-quote s j ds h′ b′ l))
+      unfolding SameText same
+      same-quote-j b′ cs ds k l = let a = name-some s i cs h b k in sym (ap₂ same (sym (a .2)) (name-quote s j ds h′ b′ l))
 
       pub same-wrong-i : CharAt s i Wrong → SameText s i j false
       unfolding SameText
@@ -105,20 +105,20 @@ module _ (s : List ℕ) (i j : ℕ) where
 
         module _ (x i₂ y j₂ : ℕ) (w : CharAt s i (Code x i₂)) (w′ : CharAt s j (Code y j₂)) where
           pub same-step : (r : Bool) → x ≡ y → SameText s i₂ j₂ r → SameText s i j r
-          unfolding SameText eqList
+          unfolding SameText same
           same-step r e rest cs ds k l =
               let a = name-step s i cs h b x i₂ w k in
               let c = name-step s j ds h′ b′ y j₂ w′ l in
-              let q : eqList (x ∷ a .0) (y ∷ c .0) ≡ eqList (a .0) (c .0) = rw (eq-eqb x y e) in
-              rest (a .0) (c .0) (a .2) (c .2) ∙ sym q ∙ ap₂ eqList (a .1) (c .1)
+              let q : same (x ∷ a .0) (y ∷ c .0) ≡ same (a .0) (c .0) = rw (eq-eqb x y e) in
+              rest (a .0) (c .0) (a .2) (c .2) ∙ sym q ∙ ap₂ same (a .1) (c .1)
 
           pub same-differ : (x ≡ y → ⊥) → SameText s i j false
-          unfolding SameText eqList
+          unfolding SameText same
           same-differ e cs ds k l =
               let a = name-step s i cs h b x i₂ w k in
               let c = name-step s j ds h′ b′ y j₂ w′ l in
-              let q : eqList (x ∷ a .0) (y ∷ c .0) ≡ false = rw (ne-eqb x y e) in
-              sym q ∙ ap₂ eqList (a .1) (c .1)
+              let q : same (x ∷ a .0) (y ∷ c .0) ≡ false = rw (ne-eqb x y e) in
+              sym q ∙ ap₂ same (a .1) (c .1)
 
 -- A STRING AND A WORD
 
@@ -135,12 +135,12 @@ is-out s i w h cs k = name-out s i cs h k
 
 module _ (s : List ℕ) (i : ℕ) (w : List ℕ) (k : ℕ) (h : i < length s) where
   pub is-quote : getD s i 0 ≡ 0x22 → k ≤ length w → TextIs s i (drop k w) (eqb k (length w))
-  unfolding TextIs eqList utf8
-  is-quote b l cs n = go (eqb k (length w)) refl ∙ sym (ap (λ (x : List ℕ). eqList (utf8 x) (drop k w)) (name-quote s i cs h b n))
+  unfolding TextIs same utf8
+  is-quote b l cs n = go (eqb k (length w)) refl ∙ sym (ap (λ (x : List ℕ). same (utf8 x) (drop k w)) (name-quote s i cs h b n))
     where
-      go : (t : Bool) → eqb k (length w) ≡ t → eqb k (length w) ≡ eqList [] (drop k w)
-      go true e = e ∙ sym (ap (eqList []) (drop-of-length-le w {i = k} (omega (arith, eqb-true k (length w) e))))
-      go false e = e ∙ sym (ap (eqList []) (at-byte w k (omega (arith, eqb-false k (length w) e))))
+      go : (t : Bool) → eqb k (length w) ≡ t → eqb k (length w) ≡ same [] (drop k w)
+      go true e = e ∙ sym (ap (same []) (drop-of-length-le w {i = k} (omega (arith, eqb-true k (length w) e))))
+      go false e = e ∙ sym (ap (same []) (at-byte w k (omega (arith, eqb-false k (length w) e))))
 
   module _ (b : getD s i 0 ≡ 0x22 → ⊥) where
     pub is-wrong : CharAt s i Wrong → TextIs s i (drop k w) false
@@ -152,10 +152,10 @@ module _ (s : List ℕ) (i : ℕ) (w : List ℕ) (k : ℕ) (h : i < length s) wh
       unfolding TextIs utf8 OctetsEnd
       is-step m r o rest cs n =
           let a = name-step s i cs h b c e x n in
-          rest (a .0) (a .2) ∙ sym (o .2 (utf8 (a .0))) ∙ ap (λ (l : List ℕ). eqList (utf8 l) (drop k w)) (a .1)
+          rest (a .0) (a .2) ∙ sym (o .2 (utf8 (a .0))) ∙ ap (λ (l : List ℕ). same (utf8 l) (drop k w)) (a .1)
 
       pub is-differ : OctetsEnd w k c Bad → TextIs s i (drop k w) false
       unfolding TextIs utf8 OctetsEnd
       is-differ o cs n =
           let a = name-step s i cs h b c e x n in
-          sym (o (utf8 (a .0))) ∙ ap (λ (l : List ℕ). eqList (utf8 l) (drop k w)) (a .1)
+          sym (o (utf8 (a .0))) ∙ ap (λ (l : List ℕ). same (utf8 l) (drop k w)) (a .1)

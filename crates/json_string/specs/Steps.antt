@@ -4,8 +4,8 @@ use mathlib.Core.Bool.{Bool, false}
 use mathlib.Core.List.{List, _++_}
 use Prim.Native.Nat.{ℕ, zero, suc, _+_, _-_, _*_, _≤_, _<_}
 use lib.ListN.{length, drop, take}
+use Rattle.common.specs.Same.{same}
 use Rattle.json_grammar.specs.Bytes.{within}
-use Rattle.json_grammar.specs.Value.{eqList}
 use Rattle.json_grammar.specs.Reader.{Got, got, one, char-by, charLead, escape-by, escapeLeadOf}
 use Rattle.json_string.specs.Strings.{Scans, NameAt}
 use Rattle.json_string.specs.Utf8.{octets, utf8}
@@ -43,8 +43,8 @@ pub record OctetsOf (c : ℕ) (o : Octets) : Type 0 where
 
 -- r is the place in w after the octets of c, which stand at a place or do not
 unfoldable pub OctetsEnd : List ℕ → ℕ → ℕ → End → Type 0
-OctetsEnd w at c (At e) = (at ≤ e) × (e ≤ length w) × ((xs : List ℕ) → eqList (octets c ++ xs) (drop at w) ≡ eqList xs (drop e w))
-OctetsEnd w at c Bad = (xs : List ℕ) → eqList (octets c ++ xs) (drop at w) ≡ false
+OctetsEnd w at c (At e) = (at ≤ e) × (e ≤ length w) × ((xs : List ℕ) → same (octets c ++ xs) (drop at w) ≡ same xs (drop e w))
+OctetsEnd w at c Bad = (xs : List ℕ) → same (octets c ++ xs) (drop at w) ≡ false
 
 -- after the octets w, those of the string at p were written to the front of a buffer that held old and now holds new; or there is no
 -- room for all of them

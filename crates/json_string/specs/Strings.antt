@@ -5,7 +5,7 @@ use mathlib.Core.List.{List, _++_}
 use Prim.Native.Nat.{ℕ, _+_, _≤_}
 use lib.Dec.{leb}
 use lib.ListN.{length, drop, replicate}
-use Rattle.json_grammar.specs.Value.{eqList}
+use Rattle.common.specs.Same.{same}
 use Rattle.json_grammar.specs.Reader.{Got, bad, got, readChar, readChars}
 use Rattle.json_string.specs.Ends.{Ends}
 use Rattle.json_string.specs.Utf8.{utf8}
@@ -34,11 +34,11 @@ NameAt s p cs = (n : ℕ) × (length (drop p s) ≤ n) × (r : List ℕ) × (rea
 
 -- r says whether the strings at p and q have the same code points
 unfoldable pub SameText : List ℕ → ℕ → ℕ → Bool → Type 0
-SameText s p q r = (cs ds : List ℕ) → NameAt s p cs → NameAt s q ds → r ≡ eqList cs ds
+SameText s p q r = (cs ds : List ℕ) → NameAt s p cs → NameAt s q ds → r ≡ same cs ds
 
 -- r says whether the string at p, in UTF-8, is the word w
 unfoldable pub TextIs : List ℕ → ℕ → List ℕ → Bool → Type 0
-TextIs s p w r = (cs : List ℕ) → NameAt s p cs → r ≡ eqList (utf8 cs) w
+TextIs s p w r = (cs : List ℕ) → NameAt s p cs → r ≡ same (utf8 cs) w
 
 -- the answer, and what the buffer then holds that held old, of resolving to the octets u
 unfoldable pub resolved : List ℕ → List ℕ → Resolved

@@ -8,8 +8,8 @@ use crate::Scan;
 use crate::strings::char_at;
 use crate::utf8::octets_of;
 
-// Whether the strings at p and q have the same code points. Rules out a prefix taken for the whole, and two writings of one
-// character taken for different ones.
+// Whether the strings at p and q have the same code points. Rules out a prefix taken for the whole, and strings compared as they
+// are written, before their escapes are resolved.
 pub fn same_text(s: &[u8], p: usize, q: usize) -> bool
     requires { ⌜ (p ≤ length (now s)) × (q ≤ length (now s)) ⌝ }
     ensures { λ r. ⌜ SameText (now (s .entry)) p q r ⌝ }
@@ -18,10 +18,12 @@ pub fn same_text(s: &[u8], p: usize, q: usize) -> bool
     let mut j = q;
     while i < s.len() {
         if j < s.len() {
-            if s[i] == 0x22 {
-                return s[j] == 0x22;
+            let a = s[i];
+            let b = s[j];
+            if a == 0x22 {
+                return b == 0x22;
             }
-            if s[j] == 0x22 {
+            if b == 0x22 {
                 return false;
             }
             let Scan::Code(x, i2) = char_at(s, i) else {
@@ -64,7 +66,8 @@ fn octets_end(w: &[u8], at: usize, c: u32) -> End
     End::At(at + n)
 }
 
-// Whether the string at p, in UTF-8, is exactly `word`. Rules out a prefix of the word or of the string taken for the whole.
+// Whether the string at p, in UTF-8, is exactly `word`. Rules out a prefix of the word taken for the whole, and every character
+// looked for at the word's start.
 pub fn text_is(s: &[u8], p: usize, word: &[u8]) -> bool
     requires { ⌜ p ≤ length (now s) ⌝ }
     ensures { λ r. ⌜ TextIs (now (s .entry)) p (now (word .entry)) r ⌝ }

@@ -9,7 +9,6 @@ mod resolving; // resolving.rt: a string's value as UTF-8
 pub use compare::same_text;
 pub use compare::text_is;
 pub use resolving::resolve;
-pub use strings::char_at;
 pub use strings::string_end;
 
 // Where a reader ends: the place after the last byte that it took, or nowhere.

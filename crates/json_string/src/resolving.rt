@@ -30,7 +30,7 @@ fn write(s: &[u8], p: usize, out: &mut [u8]) -> End
         let count = o.count;
         let bytes = o.bytes;
         if out.len() - n < count {
-            return End::Bad;
+            return End::Bad; // no room
         }
         copy_at(out, n, &bytes[..count]);
         n += count;
@@ -40,7 +40,7 @@ fn write(s: &[u8], p: usize, out: &mut [u8]) -> End
 }
 
 // Writes the string at p, in UTF-8, to the front of `out`, or clears `out` where it has no room for all of it. Rules out octets
-// cut off at the buffer's end, and octets left in a buffer that is too short.
+// cut off at the buffer's end, and characters counted for octets.
 pub fn resolve(s: &[u8], p: usize, out: &mut [u8]) -> Resolved
     requires { ⌜ p ≤ length (now s) ⌝ }
     ensures { λ r. ⌜ Resolves (now (s .entry)) p (now (out .entry)) (now (out .exit)) r ⌝ }

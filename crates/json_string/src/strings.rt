@@ -10,7 +10,7 @@ use crate::utf8::form;
 use common::wide;
 
 // The character at a place. Rules out an overlong form taken for a character, and an escape of small hexadecimal digits.
-pub fn char_at(s: &[u8], at: usize) -> Scan
+pub(crate) fn char_at(s: &[u8], at: usize) -> Scan
     requires { ⌜ at < length (now s) ⌝ }
     ensures { λ r. ⌜ CharAt (now (s .entry)) at r ⌝ }
 {
@@ -24,8 +24,8 @@ pub fn char_at(s: &[u8], at: usize) -> Scan
     form(s, at + 1, b)
 }
 
-// The place after a string's closing quotation mark; `from` is the place after the opening one. Rules out an end at an escaped
-// quotation mark, and one past a control character.
+// The place after a string's closing quotation mark; `from` is the place after the opening one. Rules out an end at an escape, and
+// the quotation mark's own place.
 pub fn string_end(s: &[u8], from: usize) -> End
     requires { ⌜ from ≤ length (now s) ⌝ }
     ensures { λ r. ⌜ StringEnds (now (s .entry)) from r ⌝ }

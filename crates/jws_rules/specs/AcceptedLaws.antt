@@ -1,19 +1,19 @@
 -- A token is verified exactly when it is accepted; what is signed is accepted.
 use mathlib.Core.Path.{_≡_, refl, sym, ap, _∙_, subst}
-use mathlib.Core.Logic.{inl, inr, ⊎-elim}
+use mathlib.Core.Logic.{inl, inr}
 use mathlib.Core.Bool.{Bool, true, false}
-use mathlib.Core.List.{List, [], _∷_}
+use mathlib.Core.List.{List, [], _∷_, _++_}
 use Prim.Native.Nat.{ℕ, _≤_, _<_}
 use native.Mathlib.Omega.{arith}
 use lib.ListN.{length}
 use Rattle.common.specs.Bytes.{Bytes}
-use Rattle.common.specs.First.{Rule, _on_, NoneOf, not-on, _also_, none-append, none-left, decides-bool, decides-eq, stable}
-use Rattle.common.specs.Decided.{when-false, test-false}
+use Rattle.common.specs.First.{Rule, _on_, NoneOf, earlier, not-on, _also_, none-append, none-left, decides-bool, decides-eq, stable}
+use Rattle.common.specs.Decided.{test-false}
 use Rattle.common.specs.Same.{decides-same}
 use Rattle.base64url.specs.Base64url.{encode, strict}
 use Rattle.base64url.specs.RoundTrip.{strict-encode, decode-bytes}
 use Rattle.json.specs.Answers.{longest}
-use Rattle.keytable.specs.Table.{keys}
+use Rattle.keytable.specs.Table.{Wellformed, keys}
 use Rattle.keytable.specs.TableLaws.{decides-good}
 use Rattle.jose_rules.specs.Header.{heading, HeaderChooses}
 use Rattle.jose_rules.specs.HeaderTests.{headerChoice}
@@ -21,11 +21,11 @@ use Rattle.jose_rules.specs.HeaderLaws.{header-chooses, header-chooses-one, hea
 use Rattle.jws_rules.specs.declared.Record.{Record}
 use Rattle.jws_rules.specs.Segments.{periods, front, back}
 use Rattle.jws_rules.specs.Token.{tokenMost, finishedLength, headerOf, payloadOf, signatureOf, secretOf}
-use Rattle.jws_rules.specs.TokenLaws.{mac-bytes, length-token, parts, whole}
+use Rattle.jws_rules.specs.TokenLaws.{mac-bytes, length-token, Parts, parts, whole}
 use Rattle.jws_rules.specs.Outcomes.{recordOf, accepted}
 use Rattle.jws_rules.specs.Rules.{verifying, Differs, signing, choiceIn, Accepted}
 use Rattle.jws_rules.specs.Tests.{choiceOf, verified, verifyAnswer, made, signAnswer}
-use Rattle.jws_rules.specs.RuleLaws.{distinct, verify-good, verify-clear, sign-clear}
+use Rattle.jws_rules.specs.RuleLaws.{distinct, before-5, before-6, before-7, verify-good, verify-clear, sign-clear}
 
 -- VERIFYING
 
@@ -34,30 +34,34 @@ abbrev after : List ℕ → List ℕ → List Rule
 after t T = 15 on Differs t T ∷ []
 
 -- an encoded segment is strict
-encoded : {x s : List ℕ} → x ≡ encode s → Bytes s → strict x ≡ false → ⊥
-encoded e b k = when-false (decides-bool _) k (ap strict e ∙ strict-encode b)
+encoded : {x s : List ℕ} → x ≡ encode s → Bytes s → strict x ≡ true
+encoded e b = ap strict e ∙ strict-encode b
 
--- a token that is accepted is verified, with its record and its header and payload in the buffers
+-- a token that is made of bytes, and isn't too long, passes the rules before 5, ..
+pub made-passes : {t T secret h p : List ℕ} → Wellformed T → Parts t secret h p → Bytes h → Bytes p → length t ≤ tokenMost
+    → (hr pr : ℕ) → NoneOf (earlier (verifying t T hr pr) 5)
+made-passes {t} {T} {secret} {h} {p} table x hb pb short hr pr =
+    before-5 t T hr pr short table (x .two) (encoded (x .segment1) hb) (encoded (x .segment2) pb) (encoded (x .segment3) (mac-bytes secret h p))
+
+-- .. and one that is accepted is verified, with its record and its header and payload in the buffers
 pub accepted-if : (t T : List ℕ) (hr pr : ℕ) (h p : List ℕ) (r : Record) → Accepted t T hr pr h p r → verified t T hr pr ≡ accepted h p r hr pr
 accepted-if t T hr pr h p r a =
     let hb = header-bytes (a .header) in
     let pb = a .payload-bytes in
-    let mb = mac-bytes (secretOf T (choiceIn r)) h p in
     let x = parts (a .token) hb pb in
     let d = distinct T (λ n. n (a .table)) in
     let one : headerChoice h (keys T) ≡ choiceIn r = sym (header-chooses-one h (keys T) d (choiceIn r) (a .header)) in
     let chosen : choiceOf t T ≡ choiceIn r = ap (λ (y : List ℕ). headerChoice y (keys T)) (x .header) ∙ one in
     let about : recordOf h p (choiceIn r) ≡ r = rw (← a .header-length, ← a .payload-length) in
     verify-good t T hr pr
-    ((λ k. omega (arith, a .short))
-    also (λ k. k (a .table))
-    also (λ k. k (x .two))
-    also ⊎-elim (encoded (x .segment1) hb) (⊎-elim (encoded (x .segment2) pb) (encoded (x .segment3) mb))
-    also (λ k. omega (arith, a .header-short, ap length (x .header)))
-    also ⊎-elim (λ k. omega (arith, a .header-fits, ap length (x .header))) (λ k. omega (arith, a .payload-fits, ap length (x .payload)))
-    also none-append (heading (headerOf t) (keys T)) (after t T)
+    (none-append (earlier (verifying t T hr pr) 7) (heading (headerOf t) (keys T) ++ after t T)
+    (before-7 t T hr pr
+    (before-6 t T hr pr (made-passes (a .table) x hb pb (a .short) hr pr) (omega (arith, a .header-short, ap length (x .header))))
+    (omega (arith, a .header-fits, ap length (x .header)))
+    (omega (arith, a .payload-fits, ap length (x .payload))))
+    (none-append (heading (headerOf t) (keys T)) (after t T)
     (subst (λ (y : List ℕ). NoneOf (heading y (keys T))) (sym (x .header)) (header-rules (a .header)))
-    ((λ k. let c = header-chooses-one (headerOf t) (keys T) d (k .0) (k .1) in k .2 (x .signature ∙ cc)) also tt))
+    ((λ k. let c = header-chooses-one (headerOf t) (keys T) d (k .0) (k .1) in k .2 (x .signature ∙ cc)) also tt)))
     ∙ rw (x .header, x .payload, one) (ap (λ (y : Record). accepted h p y hr pr) about)
 
 -- what isn't false is true

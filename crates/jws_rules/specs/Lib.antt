@@ -4,9 +4,11 @@ pub mod Token
 pub mod Outcomes
 pub mod Rules
 pub mod Tests
--- The promises, and the limits on both sides.
+-- The promises, the limits on both sides, and tokens that are accepted.
 pub mod Promises
 pub mod Sides
+pub mod Starred
+pub mod Inhabited
 -- Laws of these definitions.
 pub mod SegmentLaws
 pub mod TokenLaws

@@ -55,6 +55,7 @@ pub record SignOutcome : Type 0 where
 abbrev pub handed : Signed → List ℕ → SignOutcome
 handed r token = record { gives = r; token = token }
 
+-- "A refusal returns its number, a record of zeros [..]; it zeroes the buffers lent for writing, end to end." In signing the length is 0.
 abbrev pub unsigned : ℕ → ℕ → SignOutcome
 unsigned n room = handed (record { answer = n; length = 0 }) (replicate room 0)
 

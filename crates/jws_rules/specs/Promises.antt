@@ -1,14 +1,15 @@
--- The promises of verifying, signing and the payload call, for all inputs. The contracts say that the functions give exactly `verified`, `signed` and `payload`.
+-- The promises of verifying, signing and the payload call, for all inputs, as theorems on `verified`, `signed` and `payload`. The functions stand in crate `jws`;
+-- their contracts say that they give exactly these.
 -- t: a token; T: a table; h: a header; p: a payload; hr, pr, room: the lengths of the buffers lent for the header, the payload and the token.
 use mathlib.Core.Path.{_≡_, refl, sym, ap, _∙_}
-use mathlib.Core.Logic.{_⊎_, _↔_}
+use mathlib.Core.Logic.{_⊎_, _↔_, ⊎-elim}
 use mathlib.Core.Bool.{true}
 use mathlib.Core.List.{List, [], _∷_}
-use Prim.Native.Nat.{ℕ, _-_, _≤_}
+use Prim.Native.Nat.{ℕ, _-_, _≤_, _<_}
 use native.Mathlib.Omega.{arith}
-use lib.ListN.{length, replicate, length-append}
+use lib.ListN.{length, take, replicate, length-append}
 use lib.Seq.{take-append-seam}
-use borrow.Author.Tests.{le-leb}
+use borrow.Author.Tests.{le-leb, lt-leb, le-ltb}
 use Rattle.common.specs.Bytes.{Bytes}
 use Rattle.common.specs.Buffer.{filled}
 use Rattle.common.specs.First.{NoneOf, condition, earlier, numbers, among, first-stands, none-stands, in-range, not-on, _also_}
@@ -18,13 +19,23 @@ use Rattle.keytable.specs.Key.{Key}
 use Rattle.keytable.specs.Table.{Wellformed, keys}
 use Rattle.jose_rules.specs.Header.{HeaderChoice, HeaderChooses}
 use Rattle.jose_rules.specs.HeaderTests.{headerChoice}
+use Rattle.jose_rules.specs.HeaderLaws.{header-chooses-one}
 use Rattle.jws_rules.specs.declared.Record.{Record}
-use Rattle.jws_rules.specs.Token.{headerOf, payloadOf}
+use Rattle.jws_rules.specs.Token.{tokenOf, finishedLength, headerOf, payloadOf, secretOf}
 use Rattle.jws_rules.specs.Outcomes.{VerifyOutcome, SignOutcome, recordOf, zeroRecord, accepted, payload, signedAs, headerIn, payloadIn, tokenIn}
-use Rattle.jws_rules.specs.Rules.{verifying, signing, Accepted}
+use Rattle.jws_rules.specs.Rules.{verifying, signing, choiceIn, Accepted}
 use Rattle.jws_rules.specs.Tests.{choiceOf, verified, verifyAnswer, made, signed, signAnswer}
-use Rattle.jws_rules.specs.RuleLaws.{verify-agree, verify-number, verify-is, verify-bad, sign-agree, sign-number, sign-good, sign-is, sign-bad}
+use Rattle.jws_rules.specs.RuleLaws.{distinct, verify-agree, verify-number, verify-is, verify-bad, sign-agree, sign-number, sign-good, sign-is, sign-bad}
 use Rattle.jws_rules.specs.AcceptedLaws.{accepted-if, accepted-only, sign-header, signed-accepted, accepted-signed}
+
+-- The payload call hands back a part of the buffer, as long as the record says; "an empty part if the record's length doesn't fit".
+pub payload-part : (r : Record) (b : List ℕ) → r .payload ≤ length b → payload r b ≡ take (r .payload) b
+unfolding payload
+payload-part r b k = rw (le-leb (r .payload) (length b) k)
+
+pub payload-short : (r : Record) (b : List ℕ) → length b < r .payload → payload r b ≡ []
+unfolding payload
+payload-short r b k = rw (lt-leb (r .payload) (length b) k)
 
 -- DEMAND 1
 
@@ -53,8 +64,7 @@ sign-zeros h p T room n =
 
 -- .. and the payload that is handed back is empty, whichever buffer is given.
 pub payload-refused : (t T : List ℕ) (hr pr : ℕ) → (verifyAnswer t T hr pr ≡ 0 → ⊥) → (b : List ℕ) → payload (verified t T hr pr .gives .about) b ≡ []
-unfolding payload
-payload-refused t T hr pr n b = rw (verify-zeros t T hr pr n .0, le-leb 0 (length b) (omega arith))
+payload-refused t T hr pr n b = ap (λ (r : Record). payload r b) (verify-zeros t T hr pr n .0) ∙ payload-part zeroRecord b (omega arith)
 
 -- On 0 the header buffer is the header and then zeros, the payload buffer the payload and then zeros, ..
 pub verify-fills : (t T : List ℕ) (hr pr : ℕ) → verifyAnswer t T hr pr ≡ 0
@@ -63,9 +73,9 @@ verify-fills t T hr pr e =
     let f = verify-is t T hr pr e in
     (ap (λ (v : VerifyOutcome). v .header) f, ap (λ (v : VerifyOutcome). v .payload) f)
 
--- .. the token buffer the token and then zeros.
-pub sign-fills : (h p T : List ℕ) (room : ℕ) → signAnswer h p T room ≡ 0 → signed h p T room .token ≡ filled room (made h p T)
-sign-fills h p T room e = ap (λ (s : SignOutcome). s .token) (sign-is h p T room e)
+-- .. and signing gives "the token, then zeros, and its length".
+pub sign-fills : (h p T : List ℕ) (room : ℕ) → signAnswer h p T room ≡ 0 → signed h p T room ≡ signedAs (made h p T) room
+sign-fills = sign-is
 
 -- DEMAND 2
 
@@ -96,12 +106,34 @@ accepted-exactly t T hr pr = (
 pub accepted-gives : (t T : List ℕ) (hr pr : ℕ) (h p : List ℕ) (r : Record) → Accepted t T hr pr h p r → verified t T hr pr ≡ accepted h p r hr pr
 accepted-gives = accepted-if
 
--- THE PAYLOAD CALL, given the record and the payload buffer, hands the payload back.
+-- WHAT IS SIGNED is the token under the secret of the key that the header chooses. No reader is mentioned.
+pub made-token : (h p T : List ℕ) → Wellformed T → (c : HeaderChoice) → HeaderChooses h (keys T) c → made h p T ≡ tokenOf (secretOf T c) h p
+made-token h p T table c w =
+    ap (λ (x : HeaderChoice). tokenOf (secretOf T x) h p) (sym (header-chooses-one h (keys T) (distinct T (λ n. n table)) c w))
+
+pub sign-gives : (h p T : List ℕ) (room : ℕ) → signAnswer h p T room ≡ 0
+    → (c : HeaderChoice) × HeaderChooses h (keys T) c × (signed h p T room ≡ signedAs (tokenOf (secretOf T c) h p) room)
+sign-gives h p T room e = (headerChoice h (keys T), sign-header h p T room e .1, sign-is h p T room e)
+
+-- THE PAYLOAD CALL, given a payload's length and the buffer that it fills, hands the payload back.
 pub payload-back : (p : List ℕ) (pr : ℕ) (r : Record) → r .payload ≡ length p → payload r (filled pr p) ≡ p
-unfolding payload
 payload-back p pr r e =
-    let l : length p ≤ length (filled pr p) = omega (arith, length-append p (replicate (pr - length p) 0)) in
-    rw (e, le-leb (length p) (length (filled pr p)) l) (take-append-seam p _)
+    payload-part r (filled pr p) (omega (arith, length-append p (replicate (pr - length p) 0)))
+    ∙ rw e (take-append-seam p _)
+
+-- So what verifying gives holds the accepted header, the payload call on it hands the accepted payload back, ..
+module _ (t T : List ℕ) (hr pr : ℕ) (h p : List ℕ) (r : Record) (a : Accepted t T hr pr h p r) where
+  pub accepted-header : headerIn (verified t T hr pr) ≡ h
+  accepted-header = ap headerIn (accepted-if t T hr pr h p r a) ∙ rw (a .header-length) (take-append-seam h _)
+
+  pub accepted-payload : payloadIn (verified t T hr pr) ≡ p
+  accepted-payload = ap payloadIn (accepted-if t T hr pr h p r a) ∙ payload-back p pr r (a .payload-length)
+
+  -- .. and signing these makes the token again.
+  pub accepted-again : (room : ℕ) → length t ≤ room → signed h p T room ≡ signedAs t room
+  accepted-again room k =
+      sign-good h p T room (accepted-signed h p T room a k)
+      ∙ ap (λ (x : List ℕ). signedAs x room) (made-token h p T (a .table) (choiceIn r) (a .header) ∙ sym (a .token))
 
 -- SIGN, THEN VERIFY
 
@@ -121,11 +153,28 @@ verify-sign t T hr pr e room k =
     let h = headerOf t in
     let p = payloadOf t in
     let r = recordOf h p (choiceOf t T) in
-    ap (λ (v : VerifyOutcome). signed (headerIn v) (payloadIn v) T room) (verify-is t T hr pr e)
-    ∙ ap (λ (x : List ℕ). signed x (payload r (filled pr p)) T room) (take-append-seam h _)
-    ∙ ap (λ (x : List ℕ). signed h x T room) (payload-back p pr r refl)
-    ∙ sign-good h p T room (accepted-signed h p T room a k)
-    ∙ ap (λ (x : List ℕ). signedAs x room) (sym (a .token))
+    ap (λ (x : List ℕ). signed x (payloadIn (verified t T hr pr)) T room) (accepted-header t T hr pr h p r a)
+    ∙ ap (λ (x : List ℕ). signed h x T room) (accepted-payload t T hr pr h p r a)
+    ∙ accepted-again t T hr pr h p r a room k
+
+-- ANSWER 6: "Answer 6 means that a buffer is shorter than what it must hold; a longer buffer never is refused."
+module _ (t T : List ℕ) (hr pr : ℕ) where
+  pub verify-room : length (headerOf t) ≤ hr → length (payloadOf t) ≤ pr → verifyAnswer t T hr pr ≡ 6 → ⊥
+  verify-room k l e = ⊎-elim (λ x. omega arith) (λ x. omega arith) (verify-first t T hr pr 6 refl .0 e .0)
+
+  -- beyond what it must hold, a buffer's length changes no answer
+  pub header-longer : length (headerOf t) ≤ hr → (hr′ : ℕ) → length (headerOf t) ≤ hr′ → verifyAnswer t T hr′ pr ≡ verifyAnswer t T hr pr
+  header-longer k hr′ l = rw (verify-number t T hr pr, verify-number t T hr′ pr, le-ltb hr _ k, le-ltb hr′ _ l)
+
+  pub payload-longer : length (payloadOf t) ≤ pr → (pr′ : ℕ) → length (payloadOf t) ≤ pr′ → verifyAnswer t T hr pr′ ≡ verifyAnswer t T hr pr
+  payload-longer k pr′ l = rw (verify-number t T hr pr, verify-number t T hr pr′, le-ltb pr _ k, le-ltb pr′ _ l)
+
+module _ (h p T : List ℕ) (room : ℕ) (fits : finishedLength h p ≤ room) where
+  pub sign-room : signAnswer h p T room ≡ 6 → ⊥
+  sign-room e = let x = sign-first h p T room 6 refl .0 e .0 in omega arith
+
+  pub sign-longer : (room′ : ℕ) → finishedLength h p ≤ room′ → signAnswer h p T room′ ≡ signAnswer h p T room
+  sign-longer room′ k = rw (sign-number h p T room, sign-number h p T room′, le-ltb room _ fits, le-ltb room′ _ k)
 
 -- DEMAND 3
 

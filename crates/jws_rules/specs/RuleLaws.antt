@@ -1,23 +1,32 @@
 -- The rules and their tests agree; what the calls give, by the first test that is true.
 use mathlib.Core.Path.{_≡_, refl, sym, ap, _∙_}
-use mathlib.Core.Bool.{not}
+use mathlib.Core.Logic.{⊎-elim}
+use mathlib.Core.Bool.{Bool, true, false, not}
 use mathlib.Core.List.{List}
-use Prim.Native.Nat.{ℕ, zero, suc}
+use Prim.Native.Nat.{ℕ, zero, suc, _≤_}
 use native.Mathlib.Omega.{arith}
-use Rattle.common.specs.First.{NoneOf, first, Decides, Agree, done, _by_, none-stands, agree-append, decides-lt, decides-eq, decides-not, decides-or, decides-iff}
-use Rattle.common.specs.Decided.{test-false, decides-false}
+use lib.ListN.{length}
+use Rattle.common.specs.First.{NoneOf, earlier, not-on, _also_, first, Decides, Agree, done, _by_, none-stands, agree-append, decides-bool, decides-lt, decides-eq, decides-not, decides-or, decides-iff}
+use Rattle.common.specs.Decided.{when-false, test-false, decides-false}
 use Rattle.common.specs.Same.{same, decides-same}
+use Rattle.base64url.specs.Base64url.{strict}
 use Rattle.hmac.specs.Hmac.{HMACSHA256}
+use Rattle.json.specs.Answers.{longest}
 use Rattle.keytable.specs.Key.{Distinct}
 use Rattle.keytable.specs.Table.{Wellformed, keys}
 use Rattle.keytable.specs.TableLaws.{decides-bad}
 use Rattle.keytable.specs.GoodKeys.{keys-distinct}
 use Rattle.jose_rules.specs.Header.{heading}
 use Rattle.jose_rules.specs.HeaderLaws.{heading-agree, header-chooses, header-chooses-one}
-use Rattle.jws_rules.specs.Token.{headerOf, payloadOf, signatureOf, covered, secretOf}
+use Rattle.jws_rules.specs.Segments.{periods, front, back}
+use Rattle.jws_rules.specs.Token.{tokenMost, headerOf, payloadOf, signatureOf, covered, secretOf}
 use Rattle.jws_rules.specs.Outcomes.{VerifyOutcome, SignOutcome, recordOf, refused, accepted, unsigned, signedAs}
 use Rattle.jws_rules.specs.Rules.{verifying, Differs, signing}
 use Rattle.jws_rules.specs.Tests.{settle, choiceOf, verifyTests, verified, verifyAnswer, signTests, made, signed, signAnswer}
+
+-- a test isn't both
+not-both : {b : Bool} → b ≡ true → b ≡ false → ⊥
+not-both e k = when-false (decides-bool _) k e
 
 -- SETTLED
 
@@ -58,6 +67,23 @@ verify-agree t T hr pr =
     by λ _. decides-lt _ _
     by λ _. decides-or (decides-lt _ _) (decides-lt _ _)
     by λ _. agree-append (heading-agree (headerOf t) (keys T) (distinct T table)) (λ n. decides-differs t T (distinct T table) n by λ _. done)
+
+-- which rules a token passes: those before 5 by its length, the table, its periods and its segments; 5 by its header's length; 6 by the buffers'
+module _ (t T : List ℕ) (hr pr : ℕ) where
+  pub before-5 : length t ≤ tokenMost → Wellformed T → periods t ≡ 2 → strict (front t) ≡ true → strict (front (back t)) ≡ true → strict (back (back t)) ≡ true
+      → NoneOf (earlier (verifying t T hr pr) 5)
+  before-5 short table two s1 s2 s3 =
+      (λ k. omega arith) also (λ k. k table) also (λ k. k two) also ⊎-elim (not-both s1) (⊎-elim (not-both s2) (not-both s3)) also tt
+
+  pub before-6 : NoneOf (earlier (verifying t T hr pr) 5) → length (headerOf t) ≤ longest → NoneOf (earlier (verifying t T hr pr) 6)
+  before-6 n short =
+      let no = not-on (earlier (verifying t T hr pr) 5) n in
+      no 1 also no 2 also no 3 also no 4 also (λ k. omega arith) also tt
+
+  pub before-7 : NoneOf (earlier (verifying t T hr pr) 6) → length (headerOf t) ≤ hr → length (payloadOf t) ≤ pr → NoneOf (earlier (verifying t T hr pr) 7)
+  before-7 n fits fits′ =
+      let no = not-on (earlier (verifying t T hr pr) 6) n in
+      no 1 also no 2 also no 3 also no 4 also no 5 also ⊎-elim (λ k. omega arith) (λ k. omega arith) also tt
 
 pub verify-number : (t T : List ℕ) (hr pr : ℕ) → verifyAnswer t T hr pr ≡ first (verifyTests t T hr pr)
 unfolding verified

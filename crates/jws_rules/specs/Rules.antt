@@ -1,4 +1,4 @@
--- The rules of verifying and of signing: each condition in the paper's words under its number, in the call's order. And what it is to be accepted.
+-- The rules of verifying and of signing: each condition in the specification's words under its number, in the call's order. And what it is to be accepted.
 use mathlib.Core.Path.{_≡_}
 use mathlib.Core.Logic.{_⊎_}
 use mathlib.Core.Bool.{false}
@@ -44,10 +44,15 @@ verifying t T hr pr =
 -- h: the header; p: the payload; room: the length of the buffer lent for the token. "Signing: 2, 5, 7 to 14, then 1 (finished length), then 6."
 abbrev pub signing : List ℕ → List ℕ → List ℕ → ℕ → List Rule
 signing h p T room =
+    -- "bad table"
     2 on (Wellformed T → ⊥)
+    -- "header longer than 1,024 bytes"
     ∷ 5 on (longest < length h)
+    -- 7 to 14
     ∷ (heading h (keys T)
+    -- "token longer than 16,384 bytes", by its finished length
     ++ (1 on (tokenMost < finishedLength h p)
+    -- "a buffer too short"
     ∷ 6 on (room < finishedLength h p)
     ∷ []))
 

@@ -1,45 +1,79 @@
--- On both sides of the line: the limits, and the shortest tokens.
-use mathlib.Core.Path.{_≡_, refl}
-use mathlib.Core.Logic.{⊎-elim}
-use mathlib.Core.Bool.{true, false}
+-- On both sides of the line: the answer on either side of each limit, and those of the shortest tokens. A limit passes what another rule may still refuse;
+-- `earlier .. n` are the rules before n. Tokens and headers that stand at the limits: Inhabited.
+use mathlib.Core.Path.{_≡_, refl, ap, _∙_}
+use mathlib.Core.Logic.{inl, inr}
 use mathlib.Core.List.{List, [], _∷_}
-use Prim.Native.Nat.{ℕ}
+use Prim.Native.Nat.{ℕ, _≤_, _<_}
 use native.Mathlib.Omega.{arith}
 use lib.ListN.{length}
-use Rattle.common.specs.First.{NoneOf, condition, earlier, _also_}
+use Rattle.common.specs.First.{NoneOf, earlier, _also_}
 use Rattle.json_grammar.specs.Reader.{skip, read}
 use Rattle.json_grammar.specs.Unique.{not-derived}
-use Rattle.base64url.specs.Base64url.{decode, alphabetic, unusedBits, strict, encodedLength}
+use Rattle.base64url.specs.Base64url.{encode, decode, alphabetic, unusedBits, strict}
+use Rattle.base64url.specs.LengthLaws.{length-encode}
+use Rattle.hmac.specs.HmacLaws.{length-HMACSHA256}
 use Rattle.json.specs.Answers.{deepest}
-use Rattle.keytable.specs.Table.{Wellformed}
+use Rattle.keytable.specs.Table.{Wellformed, keys}
+use Rattle.jose_rules.specs.HeaderLaws.{header-chooses}
 use Rattle.jws_rules.specs.Segments.{periods, front, back, period}
-use Rattle.jws_rules.specs.Token.{headerOf}
-use Rattle.jws_rules.specs.Rules.{verifying}
-use Rattle.jws_rules.specs.Tests.{verifyAnswer, signAnswer}
+use Rattle.jws_rules.specs.Token.{finishedLength, headerOf, payloadOf, signatureOf}
+use Rattle.jws_rules.specs.Rules.{verifying, signing}
+use Rattle.jws_rules.specs.Tests.{choiceOf, verifyAnswer, signAnswer}
+use Rattle.jws_rules.specs.RuleLaws.{distinct, before-5, before-6, before-7}
 use Rattle.jws_rules.specs.Promises.{verify-first, sign-first}
 
+-- VERIFYING
 module _ (t T : List ℕ) (hr pr : ℕ) where
   -- "Token of 16,384 bytes: rule 1 passes it; 16,385: 1."
-  pub token-passes : length t ≡ 16384 → condition (verifying t T hr pr) 1 → ⊥
-  token-passes e k = omega arith
+  pub token-passes : length t ≤ 16384 → verifyAnswer t T hr pr ≡ 1 → ⊥
+  token-passes k e = let x = verify-first t T hr pr 1 refl .0 e .0 in omega arith
 
-  pub token-refused : length t ≡ 16385 → verifyAnswer t T hr pr ≡ 1
-  token-refused e = verify-first t T hr pr 1 refl .1 (omega arith, tt)
+  pub token-refused : 16384 < length t → verifyAnswer t T hr pr ≡ 1
+  token-refused k = verify-first t T hr pr 1 refl .1 (k, tt)
 
   -- "Header 1,024 bytes, 1,366 characters: rule 5 passes it; 1,025: 5."
-  pub header-passes : length (headerOf t) ≡ 1024 → condition (verifying t T hr pr) 5 → ⊥
-  header-passes e k = omega arith
+  pub header-passes : length (headerOf t) ≤ 1024 → verifyAnswer t T hr pr ≡ 5 → ⊥
+  header-passes k e = let x = verify-first t T hr pr 5 refl .0 e .0 in omega arith
 
-  pub header-refused : length (headerOf t) ≡ 1025 → condition (verifying t T hr pr) 5
-  header-refused e = omega arith
+  pub header-refused : NoneOf (earlier (verifying t T hr pr) 5) → 1024 < length (headerOf t) → verifyAnswer t T hr pr ≡ 5
+  header-refused n k = verify-first t T hr pr 5 refl .1 (k, n)
 
-pub header-characters : encodedLength 1024 ≡ 1366
-header-characters = refl
+  -- "Answer 6 means that a buffer is shorter than what it must hold": where neither is, `verify-room` of Promises.
+  pub header-room-refused : NoneOf (earlier (verifying t T hr pr) 6) → hr < length (headerOf t) → verifyAnswer t T hr pr ≡ 6
+  header-room-refused n k = verify-first t T hr pr 6 refl .1 (inl k, n)
 
+  pub payload-room-refused : NoneOf (earlier (verifying t T hr pr) 6) → pr < length (payloadOf t) → verifyAnswer t T hr pr ≡ 6
+  payload-room-refused n k = verify-first t T hr pr 6 refl .1 (inr k, n)
+
+  -- "The decoded signature is exactly the 32 MAC bytes, else 15."
+  pub signature-refused : NoneOf (earlier (verifying t T hr pr) 15) → (length (signatureOf t) ≡ 32 → ⊥) → verifyAnswer t T hr pr ≡ 15
+  signature-refused n k =
+      let c = header-chooses (headerOf t) (keys T) (distinct T (n .1 .0)) (n .1 .1 .1 .1 .1 .1) in
+      verify-first t T hr pr 15 refl .1 ((choiceOf t T, c, λ e. k (ap length e ∙ length-HMACSHA256 _ _)), n)
+
+pub header-characters : (h : List ℕ) → length h ≡ 1024 → length (encode h) ≡ 1366
+header-characters h e = rw (length-encode h, e)
+
+-- SIGNING
+module _ (h p T : List ℕ) (room : ℕ) where
+  pub sign-header-passes : length h ≤ 1024 → signAnswer h p T room ≡ 5 → ⊥
+  sign-header-passes k e = let x = sign-first h p T room 5 refl .0 e .0 in omega arith
+
+  pub sign-header-refused : Wellformed T → 1024 < length h → signAnswer h p T room ≡ 5
+  sign-header-refused table k = sign-first h p T room 5 refl .1 (k, (λ n. n table) also tt)
+
+  -- "then 1 (finished length), then 6"; where the token fits its buffer: `sign-room` of Promises
+  pub sign-length-passes : finishedLength h p ≤ 16384 → signAnswer h p T room ≡ 1 → ⊥
+  sign-length-passes k e = let x = sign-first h p T room 1 refl .0 e .0 in omega arith
+
+  pub sign-length-refused : NoneOf (earlier (signing h p T room) 1) → 16384 < finishedLength h p → signAnswer h p T room ≡ 1
+  sign-length-refused n k = sign-first h p T room 1 refl .1 (k, n)
+
+  pub sign-room-refused : NoneOf (earlier (signing h p T room) 6) → room < finishedLength h p → signAnswer h p T room ≡ 6
+  sign-room-refused n k = sign-first h p T room 6 refl .1 (k, n)
+
+-- THE SHORTEST TOKENS
 module _ (T : List ℕ) (table : Wellformed T) where
-  pub long-header-unsigned : (h p : List ℕ) (room : ℕ) → length h ≡ 1025 → signAnswer h p T room ≡ 5
-  long-header-unsigned h p room e = sign-first h p T room 5 refl .1 (omega arith, (λ n. n table) also tt)
-
   -- "With a valid table, empty token: 3; `..`: 7."
   pub empty-token : (hr pr : ℕ) → verifyAnswer [] T hr pr ≡ 3
   unfolding periods
@@ -48,17 +82,6 @@ module _ (T : List ℕ) (table : Wellformed T) where
   pub two-periods : (hr pr : ℕ) → verifyAnswer (period ∷ period ∷ []) T hr pr ≡ 7
   unfolding periods front back decode strict alphabetic unusedBits read skip
   two-periods hr pr =
-      verify-first (period ∷ period ∷ []) T hr pr 7 refl .1 (not-derived deepest [] refl, earlier-pass)
-    where
-      never : true ≡ false → ⊥
-      never e = let z : _≡_ {A = ℕ} 0 1 = cc in omega arith
-
-      earlier-pass : NoneOf (earlier (verifying (period ∷ period ∷ []) T hr pr) 7)
-      earlier-pass =
-          (λ k. omega arith)
-          also (λ n. n table)
-          also (λ n. n refl)
-          also ⊎-elim never (⊎-elim never never)
-          also (λ k. omega arith)
-          also ⊎-elim (λ k. omega arith) (λ k. omega arith)
-          also tt
+      let t = period ∷ period ∷ [] in
+      let n = before-6 t T hr pr (before-5 t T hr pr (omega arith) table refl refl refl refl) (omega arith) in
+      verify-first t T hr pr 7 refl .1 (not-derived deepest [] refl, before-7 t T hr pr n (omega arith) (omega arith))

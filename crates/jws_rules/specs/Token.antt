@@ -9,19 +9,19 @@ use Rattle.keytable.specs.Table.{keys}
 use Rattle.jose_rules.specs.Header.{HeaderChoice}
 use Rattle.jws_rules.specs.Segments.{front, back, _dot_}
 
--- the longest token
+-- 1: "token longer than 16,384 bytes"
 abbrev pub tokenMost : ℕ
 tokenMost = 16384
 
--- the MAC over header and payload, in base64url with the period between
+-- the MAC over RFC 7515 section 5.1's signing input: BASE64URL(UTF8(JWS Protected Header)) || '.' || BASE64URL(JWS Payload)
 abbrev pub macOf : List ℕ → List ℕ → List ℕ → List ℕ
 macOf secret h p = HMACSHA256 secret (encode h dot encode p)
 
--- header, payload and MAC, each in base64url
+-- RFC 7515 section 7.1: BASE64URL(UTF8(JWS Protected Header)) || '.' || BASE64URL(JWS Payload) || '.' || BASE64URL(JWS Signature)
 abbrev pub tokenOf : List ℕ → List ℕ → List ℕ → List ℕ
 tokenOf secret h p = encode h dot encode p dot encode (macOf secret h p)
 
--- its length: the MAC takes 43 characters
+-- "1 (finished length)": the two segments, 43 characters for the MAC's 32 bytes, two periods. It is the token's length: `length-token` of TokenLaws
 abbrev pub finishedLength : List ℕ → List ℕ → ℕ
 finishedLength h p = length (encode h) + length (encode p) + 43 + 2
 

@@ -1,4 +1,4 @@
-// Compact tokens (RFC 7515 section 7.1) with HS256: verify, sign, and the payload.
+// Compact tokens (RFC 7515 section 7.1) with HS256: what verifying and signing answer. The definitions and the promises stand in specs/, the functions in crate `jws`.
 use jose_rules::Place;
 
 // What a token that is accepted holds: the lengths of its header and payload, the key's index, whether `kid` was there, the format, and the raw texts of `typ` and `cty`.

@@ -7,6 +7,7 @@ use Rattle.json_string.specs.declared.End.{End}
 use Rattle.json_reader.specs.Contracts.{ElementsEnd, MembersEnd}
 use Rattle.json_reader.specs.EndsLaws.{ended, bounds}
 use Rattle.json_reader.proofs.CycleLaws as law
+use Rattle.json_grammar.specs.Sequences as seq
 use borrow.Fn.Kinds.{In}
 use borrow.Fn.PlainCycle.{Measures, is, falls, and}
 use Rattle.json_reader.proofs.arrays.array.Reads as array
@@ -72,15 +73,15 @@ pub +arrays·array+arrays·elements+objects·after-name+objects·member+objects�
     (λ t. array-lts.spec (skip-ws-reads.Asked, skip-ws-reads.Learnt, called 2 elements.Pre t, elements.Post)
     (entered 3 array.Pre t)
     array.Post
-    (λ c. law.array-deep _ (c .if1 .taken))
+    (λ c. law.opened-deep seq.elements _ (c .if1 .taken))
     (λ c κs. omega arith)
-    (λ c. law.array-out _ (c .before .before .if1 .left) (c .before .skip-ws .ensures) (c .if2 .taken))
+    (λ c. law.opened-out seq.elements _ (c .before .before .if1 .left) (c .before .skip-ws .ensures) (c .if2 .taken))
     (λ c. omega arith)
     (λ c. omega arith)
-    (λ c. law.array-empty _ (c .before .before .before .before .if1 .left) (c .before .before .before .skip-ws .ensures) (c .before .before .if2 .left) (c .if3 .taken))
+    (λ c. law.opened-empty seq.elements _ (c .before .before .before .before .if1 .left) (c .before .before .before .skip-ws .ensures) (c .before .before .if2 .left) (c .if3 .taken))
     (λ c. omega arith)
     (λ c κs. omega arith)
-    (λ c. law.array-elements _ (c .before .before .before .before .before .if1 .left) (c .before .before .before .before .skip-ws .ensures) (c .before .before .before .if2 .left) (c .before .if3 .left) (c .elements .ensures)))
+    (λ c. law.opened-some seq.elements _ (c .before .before .before .before .before .if1 .left) (c .before .before .before .before .skip-ws .ensures) (c .before .before .before .if2 .left) (c .before .if3 .left) (c .elements .ensures)))
     -- elements
     (λ t. elements-lts.spec (called 1 value.Pre t, value.Post)
     (entered 2 elements.Pre t)
@@ -91,12 +92,12 @@ pub +arrays·array+arrays·elements+objects·after-name+objects·member+objects�
     (λ c κs. omega arith)
     (λ c. search needs)
     (λ c. search needs)
-    (λ c. (c .before .before .before .loop .inv .2) _ (law.elements-bad _ (ended (c .enum-told .given .1) (c .before .before .value .ensures))))
-    (λ c. (c .before .before .before .before .before .loop .inv .2) _ (law.elements-out _ (ended (c .before .before .e .given .1) (c .before .before .before .before .value .ensures)) (c .if1 .taken)))
+    (λ c. (c .before .before .before .loop .inv .2) _ (law.list-bad seq.elements _ (ended (c .enum-told .given .1) (c .before .before .value .ensures))))
+    (λ c. (c .before .before .before .before .before .loop .inv .2) _ (law.list-out seq.elements _ (ended (c .before .before .e .given .1) (c .before .before .before .before .value .ensures)) (c .if1 .taken)))
     (λ c. omega arith)
     (λ c. omega arith)
-    (λ c. (c .before .before .before .before .before .before .before .loop .inv .2) _ (law.elements-close _ (ended (c .before .before .before .before .e .given .1) (c .before .before .before .before .before .before .value .ensures)) (c .before .before .if1 .left) (c .if2 .taken)))
-    (λ c. (c .before .before .before .before .before .before .before .before .loop .inv .2) _ (law.elements-other _ (ended (c .before .before .before .before .before .e .given .1) (c .before .before .before .before .before .before .before .value .ensures)) (c .before .before .before .if1 .left) (c .before .if2 .left) (c .if3 .taken)))
+    (λ c. (c .before .before .before .before .before .before .before .loop .inv .2) _ (law.list-close seq.elements _ (ended (c .before .before .before .before .e .given .1) (c .before .before .before .before .before .before .value .ensures)) (c .before .before .if1 .left) (c .if2 .taken)))
+    (λ c. (c .before .before .before .before .before .before .before .before .loop .inv .2) _ (law.list-other seq.elements _ (ended (c .before .before .before .before .before .e .given .1) (c .before .before .before .before .before .before .before .value .ensures)) (c .before .before .before .if1 .left) (c .before .if2 .left) (c .if3 .taken)))
     (λ c. omega arith)
     (λ c. omega (arith, bounds (ended (c .before .before .before .before .before .e .given .1) (c .before .before .before .before .before .before .before .value .ensures)) .0))
     (λ c. (omega (arith, bounds (ended (c .before .before .before .before .before .e .given .1) (c .before .before .before .before .before .before .before .value .ensures)) .0), omega arith, λ r h. (c .before .before .before .before .before .before .before .before .loop .inv .2) r (law.elements-comma _ (ended (c .before .before .before .before .before .e .given .1) (c .before .before .before .before .before .before .before .value .ensures)) (c .before .before .before .if1 .left) (c .if3 .left) h))))
@@ -135,12 +136,12 @@ pub +arrays·array+arrays·elements+objects·after-name+objects·member+objects�
     (λ c κs. omega arith)
     (λ c. search needs)
     (λ c. search needs)
-    (λ c. (c .before .before .before .loop .inv .2) _ (law.members-bad _ (ended (c .enum-told .given .1) (c .before .before .member .ensures))))
-    (λ c. (c .before .before .before .before .before .loop .inv .2) _ (law.members-out _ (ended (c .before .before .e .given .1) (c .before .before .before .before .member .ensures)) (c .if1 .taken)))
+    (λ c. (c .before .before .before .loop .inv .2) _ (law.list-bad seq.members _ (ended (c .enum-told .given .1) (c .before .before .member .ensures))))
+    (λ c. (c .before .before .before .before .before .loop .inv .2) _ (law.list-out seq.members _ (ended (c .before .before .e .given .1) (c .before .before .before .before .member .ensures)) (c .if1 .taken)))
     (λ c. omega arith)
     (λ c. omega arith)
-    (λ c. (c .before .before .before .before .before .before .before .loop .inv .2) _ (law.members-close _ (ended (c .before .before .before .before .e .given .1) (c .before .before .before .before .before .before .member .ensures)) (c .before .before .if1 .left) (c .if2 .taken)))
-    (λ c. (c .before .before .before .before .before .before .before .before .loop .inv .2) _ (law.members-other _ (ended (c .before .before .before .before .before .e .given .1) (c .before .before .before .before .before .before .before .member .ensures)) (c .before .before .before .if1 .left) (c .before .if2 .left) (c .if3 .taken)))
+    (λ c. (c .before .before .before .before .before .before .before .loop .inv .2) _ (law.list-close seq.members _ (ended (c .before .before .before .before .e .given .1) (c .before .before .before .before .before .before .member .ensures)) (c .before .before .if1 .left) (c .if2 .taken)))
+    (λ c. (c .before .before .before .before .before .before .before .before .loop .inv .2) _ (law.list-other seq.members _ (ended (c .before .before .before .before .before .e .given .1) (c .before .before .before .before .before .before .before .member .ensures)) (c .before .before .before .if1 .left) (c .before .if2 .left) (c .if3 .taken)))
     (λ c. omega arith)
     (λ c κs. omega arith)
     (λ c. omega (arith, bounds (ended (c .before .before .before .before .before .before .e .given .1) (c .before .before .before .before .before .before .before .before .member .ensures)) .0, (c .skip-ws .ensures .low)))
@@ -149,15 +150,15 @@ pub +arrays·array+arrays·elements+objects·after-name+objects·member+objects�
     (λ t. object-lts.spec (skip-ws-reads.Asked, skip-ws-reads.Learnt, called 1 member-list.Pre t, member-list.Post)
     (entered 2 object.Pre t)
     object.Post
-    (λ c. law.object-deep _ (c .if1 .taken))
+    (λ c. law.opened-deep seq.members _ (c .if1 .taken))
     (λ c κs. omega arith)
-    (λ c. law.object-out _ (c .before .before .if1 .left) (c .before .skip-ws .ensures) (c .if2 .taken))
+    (λ c. law.opened-out seq.members _ (c .before .before .if1 .left) (c .before .skip-ws .ensures) (c .if2 .taken))
     (λ c. omega arith)
     (λ c. omega arith)
-    (λ c. law.object-empty _ (c .before .before .before .before .if1 .left) (c .before .before .before .skip-ws .ensures) (c .before .before .if2 .left) (c .if3 .taken))
+    (λ c. law.opened-empty seq.members _ (c .before .before .before .before .if1 .left) (c .before .before .before .skip-ws .ensures) (c .before .before .if2 .left) (c .if3 .taken))
     (λ c. omega arith)
     (λ c κs. omega arith)
-    (λ c. law.object-members _ (c .before .before .before .before .before .if1 .left) (c .before .before .before .before .skip-ws .ensures) (c .before .before .before .if2 .left) (c .before .if3 .left) (c .member-list .ensures)))
+    (λ c. law.opened-some seq.members _ (c .before .before .before .before .before .if1 .left) (c .before .before .before .before .skip-ws .ensures) (c .before .before .before .if2 .left) (c .before .if3 .left) (c .member-list .ensures)))
     -- bare
     (λ t. bare-lts.spec (string-end-reads.Asked, string-end-reads.Learnt, called 3 array.Pre t, array.Post, called 2 object.Pre t, object.Post, word-end-reads.Asked, word-end-reads.Learnt, number-end-reads.Asked, number-end-reads.Learnt)
     (entered 0 bare.Pre t)

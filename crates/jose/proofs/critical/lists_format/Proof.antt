@@ -3,7 +3,8 @@ use Prim.Native.Nat.{_-_}
 use denote.Ref.{now}
 use Rattle.json.specs.Members.{FirstElement}
 use Rattle.json_string.specs.declared.End.the-variants.{At}
-use Rattle.jose_rules.specs.Names.{ascii, crit, fmt}
+use Rattle.common.specs.Ascii.{ascii}
+use Rattle.jose_rules.specs.Names.{crit, fmt}
 use Rattle.jose.proofs.WordLaws.{name-within}
 use Rattle.jose.proofs.SlotLaws.{stands-as}
 use Rattle.jose.proofs.KindLaws.{first-as}

@@ -2,7 +2,8 @@
 use mathlib.Core.Path.{sym, _∙_}
 use denote.Ref.{now}
 use Rattle.jose.specs.declared.members.Slot.the-variants.{Is}
-use Rattle.jose_rules.specs.Names.{ascii, alg, HS256}
+use Rattle.common.specs.Ascii.{ascii}
+use Rattle.jose_rules.specs.Names.{alg, HS256}
 use Rattle.jose.specs.Slots.{Stands}
 use Rattle.jose.proofs.WordLaws.{name-within}
 use Rattle.jose.proofs.SlotLaws.{stands-as, string-at}

@@ -1,5 +1,6 @@
 -- `noted`, slot by slot.
-use Rattle.jose_rules.specs.Names.{ascii, alg, kid, typ, cty, crit, fmt}
+use Rattle.common.specs.Ascii.{ascii}
+use Rattle.jose_rules.specs.Names.{alg, kid, typ, cty, crit, fmt}
 use Rattle.jose.proofs.WalkLaws.{noted}
 use borrow.Author.Needs.{needs}
 use Rattle.jose.proofs.members.noted.Statement.{statement}

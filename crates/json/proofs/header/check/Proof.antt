@@ -1,3 +1,4 @@
+-- `check` meets its contract.
 use borrow.Author.Needs.{needs}
 use Rattle.json.proofs.HeaderLaws as law
 use Rattle.json.proofs.header.check.Statement.{statement}

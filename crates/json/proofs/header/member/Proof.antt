@@ -1,3 +1,4 @@
+-- `member` meets its contract.
 use borrow.Author.Needs.{needs}
 use Rattle.json.proofs.HeaderLaws as law
 use Rattle.json.proofs.header.member.Statement.{statement}

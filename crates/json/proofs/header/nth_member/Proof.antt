@@ -1,4 +1,4 @@
-use mathlib.Core.Path.{_≡_}
+-- `nth_member` meets its contract.
 use Prim.Native.Nat.{_<_}
 use native.Mathlib.Omega.{arith}
 use lib.ListN.{length}
@@ -8,10 +8,6 @@ use Rattle.json.specs.Answers.{Picks}
 use Rattle.json.proofs.HeaderLaws as law
 use Rattle.json.proofs.header.nth_member.Statement.{statement}
 use Rattle.json.proofs.header.nth_member.Tie as tie
-use Rattle.json.proofs.header.nth_member.Reads as reads
-use Rattle.json.proofs.header.nth_member.Lts as lts
-use Rattle.json.proofs.header.shown.Reads as shown-reads
-use Rattle.json.proofs.steps.entry_at.Reads as entry-at-reads
 
 abbrev Inv-loop : tie.InvT-loop
 Inv-loop s from depth k p₀ left₀ p left = (p < length s) × ((r : Member) → Picks s p depth left r → Picks s from depth k r)

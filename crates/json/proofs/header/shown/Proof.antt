@@ -1,9 +1,8 @@
+-- `shown` meets its contract.
 use Rattle.json.specs.Answers.{shownBy}
 use borrow.Author.Needs.{needs}
 use Rattle.json.proofs.header.shown.Statement.{statement}
 use Rattle.json.proofs.header.shown.Tie as tie
-use Rattle.json.proofs.header.shown.Reads as reads
-use Rattle.json.proofs.header.shown.Lts as lts
 
 enum-told : tie.Need-enum-told
 enum-told c = search needs

@@ -1,11 +1,8 @@
+-- `top_members` meets its contract.
 use Rattle.json.proofs.HeaderLaws as law
 use borrow.Author.Needs.{needs}
 use Rattle.json.proofs.header.top_members.Statement.{statement}
 use Rattle.json.proofs.header.top_members.Tie as tie
-use Rattle.json.proofs.header.top_members.Reads as reads
-use Rattle.json.proofs.header.top_members.Lts as lts
-use Rattle.json.proofs.steps.first_member.Reads as first-member-reads
-use Rattle.json_reader.proofs.skip_ws.Reads as skip-ws-reads
 
 skip-ws-requires : tie.Need-skip-ws-requires
 skip-ws-requires c κs = search needs

@@ -1,4 +1,5 @@
-use mathlib.Core.Bool.{Bool, true, false}
+-- `block_meets` meets its contract.
+use mathlib.Core.Bool.{Bool}
 use Prim.Native.Nat.{_+_, _-_, _≤_, _<_}
 use native.Mathlib.Omega.{arith}
 use lib.ListN.{length}
@@ -8,10 +9,6 @@ use Rattle.json.proofs.NameLaws.{Without}
 use Rattle.json.proofs.NameLaws as law
 use Rattle.json.proofs.names.block_meets.Statement.{statement}
 use Rattle.json.proofs.names.block_meets.Tie as tie
-use Rattle.json.proofs.names.block_meets.Reads as reads
-use Rattle.json.proofs.names.block_meets.Lts as lts
-use Rattle.json.proofs.steps.entry_at.Reads as entry-at-reads
-use Rattle.json_string.proofs.same_text.Reads as same-text-reads
 
 abbrev Inv-loop : tie.InvT-loop
 Inv-loop s names from depth p i₀ i = (i ≤ 64) × Without s names i (p + 1)

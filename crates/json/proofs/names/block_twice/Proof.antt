@@ -1,6 +1,7 @@
+-- `block_twice` meets its contract.
 use lib.ListN.{length-set}
 use mathlib.Core.Path.{_≡_, refl}
-use Prim.Native.Nat.{_+_, _-_, _≤_, _<_}
+use Prim.Native.Nat.{_+_, _-_, _≤_}
 use native.Mathlib.Omega.{arith}
 use lib.ListN.{length}
 use borrow.Author.Needs.{needs}
@@ -8,11 +9,6 @@ use Rattle.json.proofs.NameLaws.{Without, Filling}
 use Rattle.json.proofs.NameLaws as law
 use Rattle.json.proofs.names.block_twice.Statement.{statement}
 use Rattle.json.proofs.names.block_twice.Tie as tie
-use Rattle.json.proofs.names.block_twice.Reads as reads
-use Rattle.json.proofs.names.block_twice.Lts as lts
-use Rattle.json.proofs.names.block_meets.Reads as block-meets-reads
-use Rattle.json.proofs.steps.entry_at.Reads as entry-at-reads
-use Rattle.json_string.proofs.same_text.Reads as same-text-reads
 
 abbrev Inv-loop : tie.InvT-loop
 Inv-loop s from depth names count p i₀ i = (i ≤ count) × Without s names i (p + 1)

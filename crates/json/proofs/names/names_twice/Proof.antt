@@ -1,3 +1,4 @@
+-- `names_twice` meets its contract.
 use mathlib.Core.Path.{ap, _∙_}
 use mathlib.Core.Bool.{Bool}
 use Prim.Native.Nat.{_-_, _<_}

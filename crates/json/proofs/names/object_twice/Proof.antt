@@ -1,3 +1,4 @@
+-- `object_twice` meets its contract.
 use borrow.Author.Needs.{needs}
 use Rattle.json_reader.specs.EndsLaws.{ended}
 use Rattle.json.proofs.NameLaws as law

@@ -1,3 +1,4 @@
+-- `twice_from` meets its contract.
 use mathlib.Core.Bool.{Bool}
 use Prim.Native.Nat.{_-_, _≤_}
 use native.Mathlib.Omega.{arith}

@@ -1,10 +1,9 @@
+-- `kind_by` meets its contract.
 use borrow.Author.Tests.{eq-eqb, ne-eqb}
 use Rattle.json_grammar.specs.Reader.{valueLead}
 use Rattle.json_reader.specs.Contracts.{kindBy}
 use Rattle.json.proofs.places.kind_by.Statement.{statement}
 use Rattle.json.proofs.places.kind_by.Tie as tie
-use Rattle.json.proofs.places.kind_by.Reads as reads
-use Rattle.json.proofs.places.kind_by.Lts as lts
 
 returns : tie.Need-returns
 unfolding valueLead kindBy

@@ -1,9 +1,8 @@
+-- `place_by` meets its contract.
 use Rattle.json.proofs.StepLaws as law
 use borrow.Author.Needs.{needs}
 use Rattle.json.proofs.places.place_by.Statement.{statement}
 use Rattle.json.proofs.places.place_by.Tie as tie
-use Rattle.json.proofs.places.place_by.Reads as reads
-use Rattle.json.proofs.places.place_by.Lts as lts
 
 add-t5 : tie.Need-add-t5
 add-t5 c = search needs

@@ -1,10 +1,8 @@
+-- `after_comma` meets its contract.
 use Rattle.json.proofs.SequenceLaws as law
 use borrow.Author.Needs.{needs}
 use Rattle.json.proofs.steps.after_comma.Statement.{statement}
 use Rattle.json.proofs.steps.after_comma.Tie as tie
-use Rattle.json.proofs.steps.after_comma.Reads as reads
-use Rattle.json.proofs.steps.after_comma.Lts as lts
-use Rattle.json_reader.proofs.skip_ws.Reads as skip-ws-reads
 
 skip-ws-requires : tie.Need-skip-ws-requires
 skip-ws-requires c κs = search needs

@@ -1,15 +1,10 @@
+-- `entry_at` meets its contract.
 use native.Mathlib.Omega.{arith}
 use mathlib.Core.Path.{refl}
 use Rattle.json.proofs.StepLaws as law
 use borrow.Author.Needs.{needs}
 use Rattle.json.proofs.steps.entry_at.Statement.{statement}
 use Rattle.json.proofs.steps.entry_at.Tie as tie
-use Rattle.json.proofs.steps.entry_at.Reads as reads
-use Rattle.json.proofs.steps.entry_at.Lts as lts
-use Rattle.json.proofs.steps.no_entry.Reads as no-entry-reads
-use Rattle.json.proofs.steps.spanned.Reads as spanned-reads
-use Rattle.json_reader.proofs.value_span.Reads as value-span-reads
-use Rattle.json_string.proofs.string_end.Reads as string-end-reads
 
 add-string-end : tie.Need-add-string-end
 add-string-end c = search needs

@@ -1,10 +1,8 @@
+-- `first_element` meets its contract.
 use Rattle.json.proofs.SequenceLaws as law
 use borrow.Author.Needs.{needs}
 use Rattle.json.proofs.steps.first_element.Statement.{statement}
 use Rattle.json.proofs.steps.first_element.Tie as tie
-use Rattle.json.proofs.steps.first_element.Reads as reads
-use Rattle.json.proofs.steps.first_element.Lts as lts
-use Rattle.json.proofs.steps.inside.Reads as inside-reads
 
 inside-requires : tie.Need-inside-requires
 inside-requires c κs = search needs

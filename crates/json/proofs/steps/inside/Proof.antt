@@ -1,10 +1,8 @@
+-- `inside` meets its contract.
 use native.Mathlib.Omega.{arith}
 use borrow.Author.Needs.{needs}
 use Rattle.json.proofs.steps.inside.Statement.{statement}
 use Rattle.json.proofs.steps.inside.Tie as tie
-use Rattle.json.proofs.steps.inside.Reads as reads
-use Rattle.json.proofs.steps.inside.Lts as lts
-use Rattle.json_reader.proofs.skip_ws.Reads as skip-ws-reads
 
 add-skip-ws : tie.Need-add-skip-ws
 add-skip-ws c = search needs
@@ -16,10 +14,10 @@ shared-slice-read-if2 : tie.Need-shared-slice-read-if2
 shared-slice-read-if2 c = search needs
 
 returns : tie.Need-returns
-returns c = search needs
+returns c = (_, c .before .before .before .skip-ws .ensures, λ h. c .if2 .taken)
 
 returns-2 : tie.Need-returns-2
-returns-2 c = search needs
+returns-2 c = (c .before .before .before .skip-ws .ensures, c .before .before .if1 .taken, c .if2 .left)
 
 returns-3 : tie.Need-returns-3
 returns-3 c = (_, c .before .skip-ws .ensures, λ h. absurd (omega (arith, c .if1 .left)))

@@ -1,15 +1,10 @@
+-- `item_at` meets its contract.
 use native.Mathlib.Omega.{arith}
 use Rattle.json_reader.specs.EndsLaws.{bounds, ended}
 use Rattle.json.proofs.StepLaws as law
 use borrow.Author.Needs.{needs}
 use Rattle.json.proofs.steps.item_at.Statement.{statement}
 use Rattle.json.proofs.steps.item_at.Tie as tie
-use Rattle.json.proofs.steps.item_at.Reads as reads
-use Rattle.json.proofs.steps.item_at.Lts as lts
-use Rattle.json.proofs.steps.no_item.Reads as no-item-reads
-use Rattle.json.proofs.steps.spanned.Reads as spanned-reads
-use Rattle.json_reader.proofs.skip_ws.Reads as skip-ws-reads
-use Rattle.json_reader.proofs.bare.Reads as bare-reads
 
 skip-ws-requires : tie.Need-skip-ws-requires
 skip-ws-requires c κs = search needs

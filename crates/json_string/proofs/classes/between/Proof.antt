@@ -1,7 +1,6 @@
 -- `between` meets its contract.
 use mathlib.Core.Path.{sym}
-use Rattle.json_grammar.specs.ByteLaws.{below}
-use Rattle.json_string.proofs.ClassLaws.{from-low}
+use Rattle.json_grammar.specs.ByteLaws.{from-low, below}
 use Rattle.json_string.proofs.classes.between.Statement.{statement}
 use Rattle.json_string.proofs.classes.between.Tie as tie
 

@@ -1,7 +1,6 @@
 -- `is_high` meets its contract.
 use mathlib.Core.Path.{sym}
-use Rattle.json_grammar.specs.ByteLaws.{below}
-use Rattle.json_string.proofs.ClassLaws.{from-low}
+use Rattle.json_grammar.specs.ByteLaws.{from-low, below}
 use Rattle.json_grammar.specs.Bytes.{isHigh}
 use Rattle.json_string.proofs.classes.is_high.Statement.{statement}
 use Rattle.json_string.proofs.classes.is_high.Tie as tie

@@ -19,23 +19,20 @@ abbrev μ-loop : tie.MeasureT-loop
 loop-holds : tie.Need-loop-holds Inv-loop μ-loop
 loop-holds c = (omega arith, omega arith, λ r h. h)
 
-shared-slice-read-if2 : tie.Need-shared-slice-read-if2 Inv-loop μ-loop
-shared-slice-read-if2 c = c .before .before .loop-test .taken
+shared-slice-read-a : tie.Need-shared-slice-read-a Inv-loop μ-loop
+shared-slice-read-a c = omega arith
 
-shared-slice-read-result : tie.Need-shared-slice-read-result Inv-loop μ-loop
-shared-slice-read-result c = c .before .before .before .if1 .taken
+shared-slice-read-b : tie.Need-shared-slice-read-b Inv-loop μ-loop
+shared-slice-read-b c = omega arith
 
 returns : tie.Need-returns Inv-loop μ-loop
-returns c = c .before .before .before .before .before .loop .inv .2 _ (same-quote-i _ _ _ (c .before .before .before .before .loop-test .taken) (c .before .before .before .if1 .taken) (c .before .if2 .taken))
-
-shared-slice-read-if3 : tie.Need-shared-slice-read-if3 Inv-loop μ-loop
-shared-slice-read-if3 c = c .before .before .before .if1 .taken
+returns c = c .before .before .before .before .before .loop .inv .2 _ (same-quote-i _ _ _ (c .before .before .before .before .loop-test .taken) (c .before .before .before .if1 .taken) (c .if2 .taken))
 
 returns-2 : tie.Need-returns-2 Inv-loop μ-loop
-returns-2 c = c .before .before .before .before .before .before .loop .inv .2 _ (same-quote-j _ _ _ (c .before .before .before .before .before .loop-test .taken) (c .before .before .before .before .if1 .taken) (c .before .before .if2 .left) (c .if3 .taken))
+returns-2 c = c .before .before .before .before .before .before .loop .inv .2 _ (same-quote-j _ _ _ (c .before .before .before .before .before .loop-test .taken) (c .before .before .before .before .if1 .taken) (c .before .if2 .left) (c .if3 .taken))
 
 char-at-requires : tie.Need-char-at-requires Inv-loop μ-loop
-char-at-requires c κs = c .before .before .before .before .before .loop-test .taken
+char-at-requires c κs = omega arith
 
 enum-known-x : tie.Need-enum-known-x Inv-loop μ-loop
 enum-known-x c = search needs
@@ -44,10 +41,12 @@ enum-told : tie.Need-enum-told Inv-loop μ-loop
 enum-told c = search needs
 
 returns-3 : tie.Need-returns-3 Inv-loop μ-loop
-returns-3 c = c .before .before .before .before .before .before .before .before .before .loop .inv .2 _ (same-wrong-i _ _ _ (c .before .before .before .before .before .before .before .before .loop-test .taken) (c .before .before .before .before .before .before .before .if1 .taken) (c .before .before .before .before .before .if2 .left) (scanned _ _ _ _ (c .before .before .char-at .ensures) (c .enum-told .given .1)))
+returns-3 c =
+    let e = c .before .before .before in
+    e .before .before .before .before .before .before .loop .inv .2 _ (same-wrong-i _ _ _ (e .before .before .before .before .before .loop-test .taken) (e .before .before .before .before .if1 .taken) (e .before .if2 .left) (scanned _ _ _ _ (c .before .before .char-at .ensures) (c .enum-told .given .1)))
 
 char-at-requires-2 : tie.Need-char-at-requires-2 Inv-loop μ-loop
-char-at-requires-2 c κs = c .before .before .before .before .before .before .before .before .if1 .taken
+char-at-requires-2 c κs = omega arith
 
 enum-known-y : tie.Need-enum-known-y Inv-loop μ-loop
 enum-known-y c = search needs
@@ -56,22 +55,24 @@ enum-told-2 : tie.Need-enum-told-2 Inv-loop μ-loop
 enum-told-2 c = search needs
 
 returns-4 : tie.Need-returns-4 Inv-loop μ-loop
-returns-4 c = c .before .before .before .before .before .before .before .before .before .before .before .before .before .loop .inv .2 _ (same-wrong-j _ _ _ (c .before .before .before .before .before .before .before .before .before .before .before .before .loop-test .taken) (c .before .before .before .before .before .before .before .before .before .before .before .if1 .taken) (c .before .before .before .before .before .before .before .before .before .if2 .left) (c .before .before .before .before .before .before .before .if3 .left) (scanned _ _ _ _ (c .before .before .char-at2 .ensures) (c .enum-told2 .given .1)))
+returns-4 c =
+    let e = c .before .before .before .before .before .before .before in
+    e .before .before .before .before .before .before .loop .inv .2 _ (same-wrong-j _ _ _ (e .before .before .before .before .before .loop-test .taken) (e .before .before .before .before .if1 .taken) (e .before .if2 .left) (e .if3 .left) (scanned _ _ _ _ (c .before .before .char-at2 .ensures) (c .enum-told2 .given .1)))
 
 loop-less : tie.Need-loop-less Inv-loop μ-loop
 loop-less c = omega (arith, c .before .before .before .before .before .before .before .before .before .before .before .before .before .before .loop-test .taken, char-after _ _ _ _ (scanned _ _ _ _ (c .before .before .before .before .before .before .before .before .char-at .ensures) (c .before .before .before .before .before .before .x .given .1)))
 
 loop-again : tie.Need-loop-again Inv-loop μ-loop
 loop-again c =
+    let e = c .before .before .before .before .before .before .before .before .before in
     let x = scanned _ _ _ _ (c .before .before .before .before .before .before .before .before .char-at .ensures) (c .before .before .before .before .before .before .x .given .1) in
-    let y = scanned _ _ _ _ (c .before .before .before .before .char-at2 .ensures) (c .before .before .y .given .1) in (
-      char-after _ _ _ _ x .1,
-      char-after _ _ _ _ y .1,
-      λ r h. c .before .before .before .before .before .before .before .before .before .before .before .before .before .before .before .loop .inv .2 r (same-step _ _ _ (c .before .before .before .before .before .before .before .before .before .before .before .before .before .before .loop-test .taken) (c .before .before .before .before .before .before .before .before .before .before .before .before .before .if1 .taken) (c .before .before .before .before .before .before .before .before .before .before .before .if2 .left) (c .before .before .before .before .before .before .before .before .before .if3 .left) _ _ _ _ x y r (c .if4 .taken) h),
-    )
+    let y = scanned _ _ _ _ (c .before .before .before .before .char-at2 .ensures) (c .before .before .y .given .1) in
+    (char-after _ _ _ _ x .1, char-after _ _ _ _ y .1, λ r h. e .before .before .before .before .before .before .loop .inv .2 r (same-step _ _ _ (e .before .before .before .before .before .loop-test .taken) (e .before .before .before .before .if1 .taken) (e .before .if2 .left) (e .if3 .left) _ _ _ _ x y r (c .if4 .taken) h))
 
 returns-5 : tie.Need-returns-5 Inv-loop μ-loop
-returns-5 c = c .before .before .before .before .before .before .before .before .before .before .before .before .before .before .before .loop .inv .2 _ (same-differ _ _ _ (c .before .before .before .before .before .before .before .before .before .before .before .before .before .before .loop-test .taken) (c .before .before .before .before .before .before .before .before .before .before .before .before .before .if1 .taken) (c .before .before .before .before .before .before .before .before .before .before .before .if2 .left) (c .before .before .before .before .before .before .before .before .before .if3 .left) _ _ _ _ (scanned _ _ _ _ (c .before .before .before .before .before .before .before .before .char-at .ensures) (c .before .before .before .before .before .before .x .given .1)) (scanned _ _ _ _ (c .before .before .before .before .char-at2 .ensures) (c .before .before .y .given .1)) (c .if4 .left))
+returns-5 c =
+    let e = c .before .before .before .before .before .before .before .before .before in
+    e .before .before .before .before .before .before .loop .inv .2 _ (same-differ _ _ _ (e .before .before .before .before .before .loop-test .taken) (e .before .before .before .before .if1 .taken) (e .before .if2 .left) (e .if3 .left) _ _ _ _ (scanned _ _ _ _ (c .before .before .before .before .before .before .before .before .char-at .ensures) (c .before .before .before .before .before .before .x .given .1)) (scanned _ _ _ _ (c .before .before .before .before .char-at2 .ensures) (c .before .before .y .given .1)) (c .if4 .left))
 
 returns-6 : tie.Need-returns-6 Inv-loop μ-loop
 returns-6 c = c .before .before .loop .inv .2 _ (same-out-j _ _ _ (c .if1 .left))
@@ -86,10 +87,9 @@ same-text-spec =
     Inv-loop
     μ-loop
     loop-holds
-    shared-slice-read-if2
-    shared-slice-read-result
+    shared-slice-read-a
+    shared-slice-read-b
     returns
-    shared-slice-read-if3
     returns-2
     char-at-requires
     enum-known-x

@@ -38,7 +38,7 @@ returns-2 : tie.Need-returns-2 Inv-loop μ-loop
 returns-2 c = c .before .before .before .before .before .before .loop .inv .2 _ (is-wrong _ _ _ (c .before .before .before .before .before .before .loop .k) (c .before .before .before .before .before .loop-test .taken) (c .before .before .before .if1 .left) (scanned _ _ _ _ (c .before .before .char-at .ensures) (c .enum-told .given .1)))
 
 octets-end-requires : tie.Need-octets-end-requires Inv-loop μ-loop
-octets-end-requires c κs = (c .before .before .before .before .before .before .before .loop .inv .1, char-most _ _ _ _ (scanned _ _ _ _ (c .before .before .before .char-at .ensures) (c .before .c .given .1)))
+octets-end-requires c κs = (omega arith, char-most _ _ _ _ (scanned _ _ _ _ (c .before .before .before .char-at .ensures) (c .before .c .given .1)))
 
 enum-known-e : tie.Need-enum-known-e Inv-loop μ-loop
 enum-known-e c = search needs

@@ -1,0 +1,242 @@
+// Runs headers on both sides of each rule. A line has what was run, the header's answer, and its first member or the refusal.
+use json::Member;
+use json::Place;
+use libc::STDOUT_FILENO;
+
+fn say(s: &[u8]) {
+    io::write_all(STDOUT_FILENO, s);
+}
+
+fn number(n: usize) {
+    io::print_decimal(STDOUT_FILENO, n as u64);
+}
+
+fn place(p: Place) {
+    say(b" ");
+    number(p.start);
+    say(b"-");
+    number(p.end);
+}
+
+fn found(kind: &[u8], name: Place, value: Place) {
+    say(kind);
+    place(name);
+    place(value);
+}
+
+fn answer(m: Member) {
+    match m {
+        Member::String(n, v) => found(b" string", n, v),
+        Member::Number(n, v) => found(b" number", n, v),
+        Member::True(n, v) => found(b" true", n, v),
+        Member::False(n, v) => found(b" false", n, v),
+        Member::Null(n, v) => found(b" null", n, v),
+        Member::Array(n, v) => found(b" array", n, v),
+        Member::Object(n, v) => found(b" object", n, v),
+        Member::Refused(n) => {
+            say(b" refused ");
+            number(n as usize);
+        }
+    }
+}
+
+// One line: member k of the header h.
+fn line(what: &[u8], h: &[u8], k: usize) {
+    say(what);
+    say(b": ");
+    number(json::check(h) as usize);
+    answer(json::member(h, k));
+    say(b"\n");
+}
+
+fn row(what: &[u8], h: &[u8]) {
+    line(what, h, 0);
+}
+
+// A line for each of the first n members.
+fn members(what: &[u8], h: &[u8], n: usize) {
+    let mut k = 0;
+    while k < n {
+        line(what, h, k);
+        k += 1;
+    }
+}
+
+// The header {"x":"aa..a"} of n bytes.
+fn long(what: &[u8], n: usize) {
+    let mut h = [0x61u8; 1100];
+    if n <= 1100 {
+        if 8 <= n {
+            h[0] = 0x7B;
+            h[1] = 0x22;
+            h[2] = 0x78;
+            h[3] = 0x22;
+            h[4] = 0x3A;
+            h[5] = 0x22;
+            h[n - 2] = 0x22;
+            h[n - 1] = 0x7D;
+            row(what, &h[..n]);
+        }
+    }
+}
+
+// The same of a whole array.
+fn filled_row(what: &[u8], h: &[u8; 1024]) {
+    row(what, &h[..]);
+}
+
+// The byte at place i of the header {"aa":0,"ab":0,..} of n members: names of two letters, all different, or the last as the first if `twice`.
+fn many_byte(i: usize, n: usize, twice: bool) -> u8 {
+    if i == 0 {
+        return 0x7B;
+    }
+    let k = (i - 1) / 7;
+    if n <= k {
+        return 0x20;
+    }
+    let r = (i - 1) % 7;
+    let last = n - k == 1;
+    match r {
+        0 | 3 => 0x22,
+        1 => {
+            if last && twice {
+                return 0x61;
+            }
+            0x61 + (k / 16 % 16) as u8
+        }
+        2 => {
+            if last && twice {
+                return 0x61;
+            }
+            0x61 + (k % 16) as u8
+        }
+        4 => 0x3A,
+        5 => 0x30,
+        _ => {
+            if last {
+                return 0x7D;
+            }
+            0x2C
+        }
+    }
+}
+
+// A row for that header, with white space up to 1,024 bytes.
+fn many(what: &[u8], n: usize, twice: bool) {
+    let mut h = [0x20u8; 1024];
+    let mut i = 0;
+    while i < 1024 {
+        h[i] = many_byte(i, n, twice);
+        i += 1;
+    }
+    filled_row(what, &h);
+}
+
+fn limits() {
+    row(b"seven arrays nested", b"{\"x\":[[[[[[[]]]]]]]}");
+    row(b"eight arrays nested", b"{\"x\":[[[[[[[[]]]]]]]]}");
+    row(
+        b"seven objects nested",
+        b"{\"x\":{\"x\":{\"x\":{\"x\":{\"x\":{\"x\":{\"x\":{}}}}}}}}",
+    );
+    row(
+        b"eight objects nested",
+        b"{\"x\":{\"x\":{\"x\":{\"x\":{\"x\":{\"x\":{\"x\":{\"x\":{}}}}}}}}}",
+    );
+    long(b"1,024 bytes", 1024);
+    long(b"1,025 bytes", 1025);
+    row(b"no bytes", b"");
+    row(b"no members", b" { } ");
+    row(b"an array at the top", b"[]");
+    row(b"bytes after the text", b"{}x");
+}
+
+fn kinds() {
+    members(
+        b"every kind",
+        b" {\"s\" : \"\" , \"n\":-1.5e+2, \"t\":true,\"f\": false ,\"u\":null,\"a\": [ 1 , 2 ] ,\"o\": { } } ",
+        8,
+    );
+    row(b"a number that begins with 0", b"{\"x\":01}");
+    row(b"a number with a plus sign", b"{\"x\":+1}");
+    row(b"a number with no digit after the point", b"{\"x\":1.}");
+    row(b"a word cut short", b"{\"x\":tru}");
+    row(b"a comma after the last element", b"{\"x\":[1,]}");
+    row(b"no colon", b"{\"x\" 1}");
+    row(b"vertical tab", b"{\"x\":\x0B1}");
+}
+
+fn characters() {
+    row(
+        b"every short escape",
+        b"{\"x\":\"\\\"\\\\\\/\\b\\f\\n\\r\\t\"}",
+    );
+    row(b"another escape", b"{\"x\":\"\\a\"}");
+    row(b"hexadecimal digits", b"{\"x\":\"\\u09AF\"}");
+    row(b"small hexadecimal digits", b"{\"x\":\"\\u09af\"}");
+    row(b"a surrogate pair", b"{\"x\":\"\\uD834\\uDD1E\"}");
+    row(b"a high surrogate alone", b"{\"x\":\"\\uD834\"}");
+    row(b"a high surrogate twice", b"{\"x\":\"\\uD834\\uD834\"}");
+    row(b"a low surrogate alone", b"{\"x\":\"\\uDD1E\"}");
+    row(b"U+0000 escaped", b"{\"x\":\"\\u0000\"}");
+    row(b"U+0000 as a byte", b"{\"x\":\"\x00\"}");
+    row(b"a line feed in a string", b"{\"x\":\"\n\"}");
+    row(b"U+0080 and U+07FF", b"{\"x\":\"\xC2\x80\xDF\xBF\"}");
+    row(b"overlong form of two", b"{\"x\":\"\xC1\xBF\"}");
+    row(
+        b"U+0800 and U+FFFF",
+        b"{\"x\":\"\xE0\xA0\x80\xEF\xBF\xBF\"}",
+    );
+    row(b"overlong form of three", b"{\"x\":\"\xE0\x9F\xBF\"}");
+    row(b"a surrogate in UTF-8", b"{\"x\":\"\xED\xA0\x80\"}");
+    row(
+        b"U+10000 and U+10FFFF",
+        b"{\"x\":\"\xF0\x90\x80\x80\xF4\x8F\xBF\xBF\"}",
+    );
+    row(b"overlong form of four", b"{\"x\":\"\xF0\x8F\xBF\xBF\"}");
+    row(b"above U+10FFFF", b"{\"x\":\"\xF4\x90\x80\x80\"}");
+    row(b"a tail alone", b"{\"x\":\"\x80\"}");
+    row(
+        b"a byte order mark before the text",
+        b"\xEF\xBB\xBF{\"x\":1}",
+    );
+    row(
+        b"a byte order mark in a string",
+        b"{\"x\":\"\xEF\xBB\xBF\"}",
+    );
+}
+
+fn names() {
+    row(b"one name twice", b"{\"x\":1,\"x\":2}");
+    row(b"names of different case", b"{\"x\":1,\"X\":2}");
+    row(
+        b"one name twice, by an escape",
+        b"{\"\\uD834\\uDD1E\":1,\"\xF0\x9D\x84\x9E\":2}",
+    );
+    row(
+        b"one name twice in a nested object",
+        b"{\"x\":[0,{\"y\":{\"z\":1,\"w\":2,\"z\":3}}]}",
+    );
+    row(
+        b"one name in two objects",
+        b"{\"x\":{\"y\":1},\"y\":{\"x\":1}}",
+    );
+    row(
+        b"braces in a string",
+        b"{\"x\":\"{\\\"y\\\":1,\\\"y\\\":2}\"}",
+    );
+    row(b"the empty name twice", b"{\"\":1,\"\":2}");
+    row(b"a name twice, then no end", b"{\"x\":1,\"x\":2");
+    many(b"64 names", 64, false);
+    many(b"65 names", 65, false);
+    many(b"65 names, the last as the first", 65, true);
+    many(b"120 names", 120, false);
+    many(b"120 names, the last as the first", 120, true);
+}
+
+fn main() {
+    limits();
+    kinds();
+    characters();
+    names();
+}

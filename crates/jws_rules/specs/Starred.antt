@@ -1,0 +1,64 @@
+-- The specification's starred rows ("On both sides of the line"), in its order, as rows of one claim about the definitions.
+use mathlib.Core.Path.{_≡_, refl}
+use mathlib.Core.Bool.{false}
+use mathlib.Core.List.{List, []}
+use Prim.Native.Nat.{ℕ}
+use Rattle.common.specs.Same.{same}
+use Rattle.base64url.specs.Base64url.{encode, decode, strict}
+use Rattle.base64url.specs.Examples.{bytes as example, JC4wM, examples}
+use Rattle.json_grammar.specs.Bytes.{within, isWs, isDigit, isDigit19, isE, isSign, isHex, allHex, hex4}
+use Rattle.json_grammar.specs.Value.{among, repeated, names, twice, plain, plainMembers}
+use Rattle.json_grammar.specs.Grammar.{Derivation, bytes, readingOf}
+use Rattle.json_grammar.specs.Reader.{read, readValue, readChars, readChar, charLead, escapeLeadOf, isUnescaped1, pastNumber, word, valueLead, skip}
+use Rattle.json.specs.declared.places.Member.the-variants.{Refused as RefusedMember, Array, String as Text}
+use Rattle.json.specs.Answers.{place}
+use Rattle.json.specs.Rows.{answers, rows}
+use Rattle.keytable.specs.Key.{Key}
+use Rattle.decimal.specs.Integer.{integerOf, allDigits, after}
+use Rattle.jose_rules.specs.declared.Decision.{Decision}
+use Rattle.jose_rules.specs.declared.Decision.the-variants.{Refused}
+use Rattle.common.specs.Ascii.{ascii}
+use Rattle.jose_rules.specs.Names.{alg, kid, typ, cty, crit, fmt}
+use Rattle.jose_rules.specs.Members.{stringsIn}
+use Rattle.jose_rules.specs.Tests.{lookup, missingOrWrong, anyOf, listed, criticalBroken}
+use Rattle.jose_rules.specs.Decision.{decisionWith}
+
+pub record Starred : Type 0 where
+  -- bytes 36 46 48 50 encode as `JC4wMg`
+  pub encodes : encode example ≡ ascii "JC4wMg"
+  -- `JC4wMh`: 4. `JC4wM`: 4. Empty segment: no bytes
+  pub unused-bit : strict (ascii "JC4wMh") ≡ false
+  pub bad-length : strict (ascii "JC4wM") ≡ false
+  pub empty : decode [] ≡ []
+  -- read, one member
+  pub one-member : (answers "{\"alg\":\"HS256\"}" 0 ≡ Text (place 2 5) (place 8 13)) × (answers "{\"alg\":\"HS256\"}" 1 ≡ RefusedMember 16)
+  -- 8, whichever member is asked for
+  pub name-twice : (k : ℕ) → answers "{\"alg\":\"HS256\",\"al\\u0067\":\"HS256\"}" k ≡ RefusedMember 8
+  -- 7
+  pub comma-at-end : (k : ℕ) → answers "{\"alg\":\"HS256\",}" k ≡ RefusedMember 7
+  pub low-surrogate : (k : ℕ) → answers "{\"alg\":\"HS256\",\"x\":\"\\uDD1E\"}" k ≡ RefusedMember 7
+  -- 10, and 9, whatever the keys
+  pub format-unlisted : (ks : List Key) → decisionWith (ascii "{\"alg\":\"HS256\",\"fmt\":2}") ks ≡ Refused 10
+  pub format-exponent : (ks : List Key) → decisionWith (ascii "{\"alg\":\"HS256\",\"crit\":[\"fmt\"],\"fmt\":1e0}") ks ≡ Refused 9
+  -- read, and it has one reading
+  pub white-space : answers "{\"alg\":\"HS256\",\"x\":[ ]}" 1 ≡ Array (place 16 17) (place 19 22)
+  pub one-reading : (t u : Derivation) → bytes t ≡ ascii "{\"alg\":\"HS256\",\"x\":[ ]}" → bytes u ≡ ascii "{\"alg\":\"HS256\",\"x\":[ ]}" → readingOf t ≡ readingOf u
+
+pub starred : Starred
+unfolding decisionWith missingOrWrong criticalBroken listed anyOf lookup stringsIn integerOf allDigits after ascii alg kid typ cty crit fmt same among repeated names twice plain plainMembers
+    read readValue readChars readChar charLead escapeLeadOf isUnescaped1 pastNumber word valueLead skip within isWs isDigit isDigit19 isE isSign isHex allHex hex4
+starred =
+    record {
+      encodes = examples .encodes;
+      unused-bit = examples .unused-bit .0;
+      bad-length = examples .bad-length .0;
+      empty = examples .empty .1;
+      one-member = (rows .0, rows .1);
+      name-twice = rows .2;
+      comma-at-end = rows .3;
+      low-surrogate = rows .4;
+      format-unlisted = λ ks. refl;
+      format-exponent = λ ks. refl;
+      white-space = rows .5;
+      one-reading = rows .6;
+    }
