@@ -1,11 +1,11 @@
 -- The phases of the decision: the first of the tests, phase by phase.
 use mathlib.Core.Path.{_≡_, refl, sym, ap, _∙_}
-use mathlib.Core.Bool.{Bool, true, false}
-use mathlib.Core.List.{List, [], _∷_, _++_}
+use mathlib.Core.Bool.{true, false}
+use mathlib.Core.List.{List, _++_}
 use mathlib.Core.Option.{none}
 use Prim.Native.Nat.{ℕ, zero, suc}
 use native.Mathlib.Omega.{arith}
-use Rattle.common.specs.First.{Test, _when_, first, first-within, first-after}
+use Rattle.common.specs.First.{Test, first, first-within, first-after}
 use Rattle.json_grammar.specs.Value.{Members}
 use Rattle.json_reader.specs.Contracts.{isText}
 use Rattle.json.specs.Answers.{headerTests, checked}
@@ -20,10 +20,7 @@ use Rattle.jose_rules.specs.Decision.{decided, decisionTests, decisionWith, dec
 use Rattle.jose.specs.Slots.{otherAlgorithm, memberTests, keyTests, membersRefused, keyDecision}
 use Rattle.jose.proofs.KindLaws.{wrong-last}
 
--- THE FIRST TEST THAT REFUSES
-
-first-next : (n : ℕ) {b : Bool} (ts : List Test) → b ≡ false → first ((n when b) ∷ ts) ≡ first ts
-first-next n ts e = rw e
+-- A REFUSAL
 
 decided-refused : (n : ℕ) (c : HeaderChoice) → (n ≡ 0 → ⊥) → Refused n ≡ decided n c
 decided-refused zero c z = absurd (z refl)

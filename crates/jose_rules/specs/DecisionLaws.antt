@@ -1,13 +1,11 @@
 -- What a decision says: the number is that of the first rule that refuses; where none does, the choice is the header's, and its key is one of the keys.
-use mathlib.Core.Path.{_≡_, refl, sym, ap, _∙_}
-use mathlib.Core.Bool.{Bool, true, false, cond, not, _&&_}
-use mathlib.Core.List.{List, [], _∷_}
+use mathlib.Core.Path.{_≡_, refl, sym}
+use mathlib.Core.Bool.{Bool, true, false, cond}
+use mathlib.Core.List.{List, _∷_}
 use mathlib.Core.Option.{Option, none, some}
 use Prim.Native.Nat.{ℕ, zero, suc, _<_}
 use native.Mathlib.Omega.{arith}
-use lib.Dec.{eqb}
 use lib.ListN.{length}
-use borrow.Author.Tests.{eq-eqb}
 use Rattle.common.specs.First.{_when_, first, all-pass}
 use Rattle.json_grammar.specs.Value.{Value, Members}
 use Rattle.json_string.specs.Utf8.{utf8}

@@ -7,18 +7,11 @@ use lib.ListN.{length, take, drop, replicate, length-drop}
 use lib.Seq.{take-at, length-take-le}
 use borrow.Rule.Slice.PartMut.{putMid}
 use Rattle.base64url.specs.Outcome.{laid}
-use Rattle.base64url.proofs.LaidLaws.{tail, put-tail}
 use Rattle.common.specs.Buffer.{filled}
 use Rattle.jws_rules.specs.declared.Signed.{Signed}
 use Rattle.jws_rules.specs.Outcomes.{SignOutcome, handed, unsigned, signedAs}
 use Rattle.jws.specs.Written.{Written, unsignedResult}
-
--- the part from n on cleared: the first n bytes, then zeros
-pub cleared : (n room : ℕ) (b z : List ℕ) → length b ≡ room → n ≤ length b → z ≡ replicate (length (take (length b - n) (drop n b))) 0
-    → putMid n (length b - n) b z ≡ filled room (take n b)
-cleared n room b z e h k =
-    let m : length (take (length b - n) (drop n b)) ≡ room - length (take n b) = ap length (tail n b) ∙ omega (arith, length-drop n b, length-take-le n b h) in
-    put-tail n b z ∙ ap (λ (x : List ℕ). take n b ++ x) (k ∙ ap (λ (x : ℕ). replicate x 0) m)
+use Rattle.jws.proofs.ClearLaws.{cleared}
 
 -- what the outer function hands back
 pub settled : (outcome : SignOutcome) (token₀ token z : List ℕ) {r : Signed} → Written outcome token₀ r token

@@ -1,5 +1,5 @@
-// What a token's verification answers, by phases: rules 1 to 3, rules 4 to 14, rule 15. Each writes no more than the buffers' fronts;
-// the caller clears the rest.
+// The rules of verifying, phase by phase: 1 to 3, 4 to 6, 7 to 14, 15. An accepted token's header and payload are left at the fronts of
+// the buffers; the caller clears them past the record's lengths.
 ghost use mathlib.Core.Path.{_≡_};
 ghost use mathlib.Core.Bool.{false};
 ghost use Prim.Native.Nat.{_<_};
@@ -67,7 +67,7 @@ fn acceptance(opened: Opened, choice: Choice) -> Verified
     }
 }
 
-// Rule 15: whether the signature is the MAC of the covered bytes under the chosen key's secret.
+// Rule 15: the signature is the MAC of the covered bytes under the chosen key's secret.
 fn conclude(opened: Opened, choice: Choice, covered: &[u8], table: &[u8]) -> Verified
     requires { ⌜ (badTable (now table) ≡ false) × (choice .index < length (keys (now table))) ⌝ }
     ensures { λ r. ⌜ r ≡ concluded opened choice (now (covered .entry)) (now (table .entry)) ⌝ }
@@ -119,7 +119,7 @@ fn judge_segments(
     judge_header(opened, &header[0..n], &token[0..b], table)
 }
 
-// Rules 1 to 15.
+// Rules 1 to 15: the first that refuses, or acceptance.
 pub(crate) fn judge(token: &[u8], table: &[u8], header: &mut [u8], payload: &mut [u8]) -> Verified
     ensures { λ r. ⌜ Judged (now (token .entry)) (now (table .entry)) (now (header .exit)) (now (payload .exit)) (first (verifyTests (now (token .entry)) (now (table .entry)) (length (now (header .entry))) (length (now (payload .entry))))) r ⌝ }
 {

@@ -1,0 +1,65 @@
+// Verifying and signing: their answers as numbers, a record as nine words, and a token's length as a word.
+use jws::Record;
+ghost use mathlib.Core.Path.{_≡_};
+ghost use mathlib.Core.Bool.{cond};
+ghost use lib.ListN.{length};
+ghost use Rattle.jws_rules.specs.Tests.{verified, signed};
+ghost use Rattle.jws_ffi.specs.Words.{recordWords, verifyCall, verifyWords, signCall, signWords};
+
+fn word_of(b: bool) -> u64
+    ensures { λ r. ⌜ r ≡ cond b 1 0 ⌝ }
+{
+    if b { 1 } else { 0 }
+}
+
+fn words_of(about: Record) -> [u64; 9]
+    ensures { λ r. ⌜ r ≡ recordWords about ⌝ }
+{
+    let named = word_of(about.named);
+    [
+        about.header as u64,
+        about.payload as u64,
+        about.key as u64,
+        named,
+        about.format as u64,
+        about.typ.start as u64,
+        about.typ.length as u64,
+        about.cty.start as u64,
+        about.cty.length as u64,
+    ]
+}
+
+// Verifies a token: 0, its record and its two parts, or the refusal's number with all that is lent for writing zeroed.
+// Rules out the key's index and the format exchanged, and words that a refusal leaves as they were.
+#[no_mangle]
+pub extern "C" fn jws_verify(
+    token: &[u8],
+    table: &[u8],
+    header: &mut [u8],
+    payload: &mut [u8],
+    words: &mut [u64; 9],
+) -> u8
+    ensures { λ r. ⌜ verifyCall r (now (words .exit)) (now (header .exit)) (now (payload .exit)) ≡ verifyWords (verified (now (token .entry)) (now (table .entry)) (length (now (header .entry))) (length (now (payload .entry)))) ⌝ }
+{
+    let v = jws::verify(token, table, header, payload);
+    let about = words_of(v.about);
+    *words = about;
+    v.answer
+}
+
+// Signs a header and a payload: 0, the token and its length, or the refusal's number with all that is lent for writing zeroed.
+// Rules out a length that isn't written, and header and payload exchanged.
+#[no_mangle]
+pub extern "C" fn jws_sign(
+    header: &[u8],
+    payload: &[u8],
+    table: &[u8],
+    token: &mut [u8],
+    size: &mut u64,
+) -> u8
+    ensures { λ r. ⌜ signCall r (now (size .exit)) (now (token .exit)) ≡ signWords (signed (now (header .entry)) (now (payload .entry)) (now (table .entry)) (length (now (token .entry)))) ⌝ }
+{
+    let s = jws::sign(header, payload, table, token);
+    *size = s.length as u64;
+    s.answer
+}
