@@ -1,9 +1,10 @@
 #!/usr/bin/env python3
-"""A second opinion on header texts, for checking the reference's reader.
+"""A second opinion on header texts, for checking the reference's reader and the proved one.
 
 Standard input: one header a line, in hexadecimal, `-` for no bytes; further words on a line are an expected answer.
 Standard output: for each line the answer of the specification's header grammar: 5, 7 or 8 alone, or 0 with a word for each member
 of the top object, `kind:name start:name end:value start:value end`, and then the reading in one word.
+With --members: without the reading.
 With --compare: prints only the lines whose expected answer differs and a tally; ends with status 1 if any differ.
 
     cargo run --release --bin headers -- 1 50000 | python3 tools/json_oracle.py --compare
@@ -182,7 +183,7 @@ def member_words(top):
         yield "%d:%d:%d:%d:%d" % (KINDS[value.kind], name_start, name_end, value.start, value.end)
 
 
-def answer(header):
+def answer(header, with_reading):
     """The answer to a header, as it is printed."""
     if len(header) > HEADER_MAX:
         return "5"
@@ -198,7 +199,7 @@ def answer(header):
     check_read(text, top)
     if name_twice(top):
         return "8"
-    return " ".join(["0", *member_words(top), reading(top)])
+    return " ".join(["0", *member_words(top), *([reading(top)] if with_reading else [])])
 
 
 # The check against Python's json module.
@@ -281,15 +282,17 @@ def check_refused(text):
 
 
 def main():
-    compare = sys.argv[1:] == ["--compare"]
-    if sys.argv[1:] and not compare:
-        sys.exit("usage: json_oracle.py [--compare] < headers")
+    options = sys.argv[1:]
+    compare = "--compare" in options
+    with_reading = "--members" not in options
+    if not set(options) <= {"--compare", "--members"}:
+        sys.exit("usage: json_oracle.py [--members] [--compare] < headers")
     tally = collections.Counter()
     differing = 0
     for line in sys.stdin:
         word, _, expected = line.rstrip("\n").partition(" ")
         header = b"" if word == "-" else bytes.fromhex(word)
-        given = answer(header)
+        given = answer(header, with_reading)
         tally[given[0]] += 1
         if not compare:
             print(given)

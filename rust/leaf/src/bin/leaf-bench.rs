@@ -1,34 +1,10 @@
 //! Times the proved codecs beside the reference, both in one run, and prints the ratios of the least times.
 
 use std::hint::black_box;
-use std::time::Instant;
+
+use timing::{least_of_both, report};
 
 const ROUNDS: usize = 400;
-
-/// The least time of one call in nanoseconds, of each of the two, taken in turn.
-fn least(mut ours: impl FnMut(), mut theirs: impl FnMut()) -> (f64, f64) {
-    let mut best = (f64::MAX, f64::MAX);
-    for _ in 0..ROUNDS {
-        let start = Instant::now();
-        for _ in 0..8 {
-            ours();
-        }
-        best.0 = best.0.min(start.elapsed().as_nanos() as f64 / 8.0);
-        let start = Instant::now();
-        for _ in 0..8 {
-            theirs();
-        }
-        best.1 = best.1.min(start.elapsed().as_nanos() as f64 / 8.0);
-    }
-    best
-}
-
-fn report(name: &str, (ours, theirs): (f64, f64)) {
-    println!(
-        "{name}: proved {ours:.0} ns, Rust {theirs:.0} ns, ratio {:.2}",
-        ours / theirs
-    );
-}
 
 fn main() {
     let bytes: Vec<u8> = (0..16_000u32).map(|i| (i * 31 + 7) as u8).collect();
@@ -40,7 +16,8 @@ fn main() {
         let m = &bytes[..length];
         report(
             &format!("SHA-256 of {length} bytes"),
-            least(
+            least_of_both(
+                ROUNDS,
                 || {
                     black_box(leaf::sha256(black_box(m)));
                 },
@@ -51,7 +28,8 @@ fn main() {
         );
         report(
             &format!("HMAC-SHA-256 of {length} bytes"),
-            least(
+            least_of_both(
+                ROUNDS,
                 || {
                     black_box(leaf::hmac_sha256(black_box(&bytes[..32]), black_box(m)));
                 },
@@ -65,7 +43,8 @@ fn main() {
         let t = &text[..length];
         report(
             &format!("base64url decoding of {length} characters"),
-            least(
+            least_of_both(
+                ROUNDS,
                 || {
                     black_box(leaf::decode(black_box(t), black_box(&mut a)));
                 },
@@ -77,7 +56,8 @@ fn main() {
         let m = &bytes[..length / 4 * 3];
         report(
             &format!("base64url encoding to {length} characters"),
-            least(
+            least_of_both(
+                ROUNDS,
                 || {
                     black_box(leaf::encode(black_box(m), black_box(&mut a)));
                 },

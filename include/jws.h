@@ -1,0 +1,130 @@
+/*
+ * Compact JSON Web Signatures (RFC 7515) with HMAC-SHA-256: verify a token, sign one, and read a header's members.
+ *
+ * Link target/staticlib/libjws_ffi.a, which `rt staticlib jws_ffi` writes, and the C library (memset and memcpy are called).
+ * There is no heap, no global state and no error but the answer, so calls may run on any threads at once.
+ *
+ * Of every call:
+ * - a pointer comes with its length in bytes; where the length is 0, the pointer may be null and is not followed;
+ * - what is lent for writing (the buffers, `record`, `length`, `member`) overlaps nothing else that is lent to the same call;
+ * - `record`, `length` and `member` are never null;
+ * - the result is an answer: 0, or the number of the first rule that refuses, in the order said at each function.
+ */
+#ifndef JWS_H
+#define JWS_H
+
+#include <stddef.h>
+#include <stdint.h>
+
+#ifdef __cplusplus
+extern "C" {
+#endif
+
+/* Answers. */
+enum {
+    JWS_DONE = 0,                /* accepted, signed or member found */
+    JWS_TOKEN_TOO_LONG = 1,      /* token longer than JWS_TOKEN_MAX bytes */
+    JWS_BAD_TABLE = 2,           /* bad key table */
+    JWS_NOT_TWO_PERIODS = 3,     /* token hasn't exactly two periods */
+    JWS_NOT_BASE64URL = 4,       /* a segment isn't strict base64url */
+    JWS_HEADER_TOO_LONG = 5,     /* header longer than JWS_HEADER_MAX bytes */
+    JWS_BUFFER_TOO_SHORT = 6,    /* a buffer is shorter than what it must hold */
+    JWS_NOT_DERIVED = 7,         /* header isn't derived by the grammar, or nests deeper than 8 */
+    JWS_NAME_TWICE = 8,          /* one object of the header has a name twice */
+    JWS_WRONG_KIND = 9,          /* a known member is missing or has the wrong kind */
+    JWS_CRITICAL = 10,           /* critical rule broken (`crit`, `fmt`) */
+    JWS_WRONG_ALG = 11,          /* alg isn't HS256 */
+    JWS_NO_KEY = 12,             /* no key found */
+    JWS_ALG_NOT_ALLOWED = 13,    /* the key's HS256 bit is 0 */
+    JWS_FORMAT_NOT_ALLOWED = 14, /* the key's formats lack this format */
+    JWS_SIGNATURE_DIFFERS = 15,  /* signature differs */
+    JWS_NO_SUCH_MEMBER = 16      /* no such member (jws_member only) */
+};
+
+/* Kinds of a member's value. */
+enum {
+    JWS_STRING = 1,
+    JWS_NUMBER = 2,
+    JWS_TRUE = 3,
+    JWS_FALSE = 4,
+    JWS_NULL = 5,
+    JWS_ARRAY = 6,
+    JWS_OBJECT = 7
+};
+
+/* Words of jws_verify's record. */
+enum {
+    JWS_RECORD_HEADER_LENGTH = 0,  /* bytes of the decoded header */
+    JWS_RECORD_PAYLOAD_LENGTH = 1, /* bytes of the payload */
+    JWS_RECORD_KEY_INDEX = 2,      /* the key's index in the table, from 0 */
+    JWS_RECORD_KID_PRESENT = 3,    /* 1 if the header has `kid`, else 0 */
+    JWS_RECORD_FORMAT = 4,         /* the format, 1 to 8 */
+    JWS_RECORD_TYP_START = 5,      /* where the raw text of `typ` starts in the decoded header; 0 if absent */
+    JWS_RECORD_TYP_LENGTH = 6,     /* its length in bytes; 0 if absent */
+    JWS_RECORD_CTY_START = 7,      /* the same of `cty` */
+    JWS_RECORD_CTY_LENGTH = 8,
+    JWS_RECORD_WORDS = 9
+};
+
+/* Words of jws_member's member. A start is the place of the first byte, an end the place after the last. */
+enum {
+    JWS_MEMBER_KIND = 0,        /* JWS_STRING to JWS_OBJECT */
+    JWS_MEMBER_NAME_START = 1,  /* the name, raw, between its quotation marks */
+    JWS_MEMBER_NAME_END = 2,
+    JWS_MEMBER_VALUE_START = 3, /* the value, raw: a string between its quotation marks, any other value whole */
+    JWS_MEMBER_VALUE_END = 4,
+    JWS_MEMBER_WORDS = 5
+};
+
+/* Limits, in bytes. */
+enum {
+    JWS_TOKEN_MAX = 16384,
+    JWS_HEADER_MAX = 1024
+};
+
+/*
+ * Verifies a compact token against a key table.
+ *
+ * token:   the token's bytes, header '.' payload '.' signature.
+ * table:   the key table.
+ * header:  a buffer for the decoded header; JWS_HEADER_MAX bytes always suffice.
+ * payload: a buffer for the payload; 3/4 of the token's length always suffices.
+ * record:  nine words, JWS_RECORD_HEADER_LENGTH to JWS_RECORD_CTY_LENGTH.
+ *
+ * Answers JWS_DONE, or the first of 1 to 15 in this order. After JWS_DONE each buffer holds its part of the token and then zeros.
+ * After a refusal both buffers and all nine words are 0, from end to end.
+ */
+uint8_t jws_verify(const uint8_t *token, size_t token_len, const uint8_t *table, size_t table_len, uint8_t *header,
+                   size_t header_len, uint8_t *payload, size_t payload_len, uint64_t record[9]);
+
+/*
+ * Signs a header and a payload by a key of the table.
+ *
+ * header:  the header's bytes, as they shall stand in the token.
+ * payload: the payload.
+ * table:   the key table.
+ * token:   a buffer for the token; JWS_TOKEN_MAX bytes always suffice.
+ * length:  the token's length in bytes.
+ *
+ * Answers JWS_DONE, or the first of 2, 5, 7 to 14, then 1 (the finished token), then 6, in this order. After JWS_DONE the buffer holds
+ * the token and then zeros. After a refusal the buffer and the length are 0, from end to end.
+ */
+uint8_t jws_sign(const uint8_t *header, size_t header_len, const uint8_t *payload, size_t payload_len,
+                 const uint8_t *table, size_t table_len, uint8_t *token, size_t token_len, uint64_t *length);
+
+/*
+ * Reads member k, from 0, of a header's top object.
+ *
+ * header: the header's bytes.
+ * member: five words, JWS_MEMBER_KIND to JWS_MEMBER_VALUE_END.
+ *
+ * Answers JWS_DONE, or the first of 5, 7, 8, 16 in this order: 5, 7 and 8 are the header's and the same for every k; 16 is for a k past
+ * the last member. After a refusal all five words are 0.
+ */
+uint8_t jws_member(const uint8_t *header, size_t header_len, size_t k, uint64_t member[5]);
+
+#ifdef __cplusplus
+}
+#endif
+
+#endif

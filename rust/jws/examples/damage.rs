@@ -1,0 +1,43 @@
+//! Runs generated calls, good and damaged, of the verifier, the signer and the member reader through the archive, with buffers on the
+//! heap of exactly their lengths. To be run by valgrind, which sees a byte that is read or written outside of one:
+//!
+//!     valgrind --error-exitcode=1 target/release/examples/damage 1000
+
+use jws::Refusal;
+
+/// A buffer of its own, of these bytes and no more.
+fn exact(bytes: Vec<u8>) -> Box<[u8]> {
+    bytes.into_boxed_slice()
+}
+
+/// The number of an answer.
+fn number<T>(result: Result<T, Refusal>, buffers: &[&[u8]]) -> usize {
+    let answer = result.map_or_else(|refusal| usize::from(refusal.number()), |_| 0);
+    let zeros = buffers.iter().all(|buffer| buffer.iter().all(|&byte| byte == 0));
+    assert!(zeros || answer == 0, "a refusal leaves zeros");
+    answer
+}
+
+fn main() {
+    let count: usize = std::env::args()
+        .nth(1)
+        .map_or(1_000, |word| word.parse().expect("a number"));
+    let mut answers = [0; 17];
+    for case in generate::verify_cases(41).take(count) {
+        let (token, table) = (exact(case.token), exact(case.table));
+        let (mut header, mut payload) = (exact(vec![1; case.header_len]), exact(vec![2; case.payload_len]));
+        let result = jws::verify(&token, &table, &mut header, &mut payload);
+        answers[number(result, &[&header, &payload])] += 1;
+    }
+    for case in generate::sign_cases(42).take(count) {
+        let (header, payload, table) = (exact(case.header), exact(case.payload), exact(case.table));
+        let mut token = exact(vec![3; case.token_len]);
+        let result = jws::sign(&header, &payload, &table, &mut token);
+        answers[number(result, &[&token])] += 1;
+    }
+    for case in generate::member_cases(43).take(count) {
+        let header = exact(case.header);
+        answers[number(jws::member(&header, case.k), &[])] += 1;
+    }
+    println!("{} calls, answers 0 to 16: {answers:?}", 3 * count);
+}

@@ -1,0 +1,38 @@
+//! The functions of `include/jws.h`, as they are. A `*const u8` goes with the length after it and may be null where that is 0.
+//!
+//! # Safety
+//!
+//! Each pointer is valid for its length, or for the words that it points to; what is lent for writing overlaps nothing
+//! else that is lent to the same call. There is no other precondition.
+
+extern "C" {
+    /// Member `k` of a header: kind, name start, name end, value start, value end.
+    pub fn jws_member(header: *const u8, header_len: usize, k: usize, member: *mut [u64; 5]) -> u8;
+
+    /// Verifies a token: header length, payload length, key index, whether `kid` was there, format, start and length of
+    /// `typ`, start and length of `cty`.
+    pub fn jws_verify(
+        token: *const u8,
+        token_len: usize,
+        table: *const u8,
+        table_len: usize,
+        header: *mut u8,
+        header_len: usize,
+        payload: *mut u8,
+        payload_len: usize,
+        record: *mut [u64; 9],
+    ) -> u8;
+
+    /// Signs a header and a payload: the token's length.
+    pub fn jws_sign(
+        header: *const u8,
+        header_len: usize,
+        payload: *const u8,
+        payload_len: usize,
+        table: *const u8,
+        table_len: usize,
+        token: *mut u8,
+        token_len: usize,
+        length: *mut u64,
+    ) -> u8;
+}

@@ -1,0 +1,93 @@
+/*
+ * Prints how many bytes of stack a call takes, from its return address on: the call runs on a stack of its own, which is filled with a
+ * pattern first.
+ *
+ *     stack member K     standard input: the header
+ *     stack verify FILE  standard input: the token; FILE: the key table
+ *     stack sign FILE    standard input: the header; the payload is empty
+ */
+#include "jws.h"
+
+#include <stdio.h>
+#include <stdlib.h>
+#include <string.h>
+#include <ucontext.h>
+
+enum { ROOM = 1 << 16, PATTERN = 0x5A, TABLE_MAX = 8192 };
+
+static uint8_t stack[ROOM];
+static uint8_t input[JWS_TOKEN_MAX], table[TABLE_MAX];
+static uint8_t header[JWS_HEADER_MAX], payload[JWS_TOKEN_MAX], token[JWS_TOKEN_MAX];
+static uint64_t member[JWS_MEMBER_WORDS], record[JWS_RECORD_WORDS], token_length;
+static size_t length, table_length, k;
+static ucontext_t home, away;
+static volatile uintptr_t frame;
+static volatile uint8_t answer;
+
+/* These have no locals. The call's return address, and the arguments that go by the stack, come right below the frame's address. */
+static void call_member(void)
+{
+    frame = (uintptr_t)__builtin_frame_address(0);
+    answer = jws_member(input, length, k, member);
+}
+
+static void call_verify(void)
+{
+    frame = (uintptr_t)__builtin_frame_address(0);
+    answer = jws_verify(input, length, table, table_length, header, sizeof header, payload, sizeof payload, record);
+}
+
+static void call_sign(void)
+{
+    frame = (uintptr_t)__builtin_frame_address(0);
+    answer = jws_sign(input, length, payload, 0, table, table_length, token, sizeof token, &token_length);
+}
+
+/* The bytes below the frame of `call`, down to the lowest one that is written. */
+static size_t taken(void (*call)(void))
+{
+    size_t at = 0;
+    memset(stack, PATTERN, sizeof stack);
+    getcontext(&away);
+    away.uc_stack.ss_sp = stack;
+    away.uc_stack.ss_size = sizeof stack;
+    away.uc_link = &home;
+    makecontext(&away, call, 0);
+    swapcontext(&home, &away);
+    while (at < ROOM && stack[at] == PATTERN) {
+        at++;
+    }
+    return frame - (uintptr_t)(stack + at);
+}
+
+static int read_table(const char *name)
+{
+    FILE *file = fopen(name, "rb");
+    if (file == NULL) {
+        return 0;
+    }
+    table_length = fread(table, 1, sizeof table, file);
+    fclose(file);
+    return 1;
+}
+
+/* Prints the answer and the bytes of stack. */
+int main(int count, char **words)
+{
+    void (*call)(void) = call_member;
+    size_t bytes;
+    if (count != 3) {
+        return 2;
+    }
+    if (strcmp(words[1], "member") == 0) {
+        k = strtoull(words[2], NULL, 10);
+    } else if (!read_table(words[2])) {
+        return 2;
+    } else {
+        call = strcmp(words[1], "verify") == 0 ? call_verify : call_sign;
+    }
+    length = fread(input, 1, sizeof input, stdin);
+    bytes = taken(call);
+    printf("%d %zu\n", answer, bytes);
+    return 0;
+}

@@ -1,0 +1,226 @@
+//! What the tests share.
+
+#![allow(dead_code)] // each test file uses a part of it
+
+use jws::{ffi, Refusal};
+
+/// How many cases a test runs: `CASES` of the environment, or this many.
+pub fn cases_or(count: usize) -> usize {
+    match std::env::var("CASES") {
+        Ok(count) => count.parse().expect("CASES is a number"),
+        Err(_) => count,
+    }
+}
+
+/// `CASES` of the environment, or 20,000.
+pub fn cases() -> usize {
+    cases_or(20_000)
+}
+
+const GARBAGE: u64 = 0xA5A5_A5A5_A5A5_A5A5;
+
+/// A buffer to lend: garbage, with a few bytes on both sides that a call has to leave as they are.
+struct Lent(Vec<u8>);
+
+impl Lent {
+    const SIDE: usize = 16;
+
+    fn new(length: usize) -> Self {
+        Lent(vec![GARBAGE as u8; length + 2 * Self::SIDE])
+    }
+
+    fn part(&mut self) -> &mut [u8] {
+        let end = self.0.len() - Self::SIDE;
+        &mut self.0[Self::SIDE..end]
+    }
+
+    /// What a call left in it.
+    fn taken(mut self) -> Vec<u8> {
+        let part = self.part().to_vec();
+        let (before, rest) = self.0.split_at(Self::SIDE);
+        let (_, after) = rest.split_at(part.len());
+        assert_eq!([before, after], [[GARBAGE as u8; Self::SIDE]; 2]);
+        part
+    }
+}
+
+/// A raw call: the answer and the words, which hold garbage before. The words beside them stay as they are.
+pub fn raw_member(header: &[u8], k: usize) -> (u8, [u64; 5]) {
+    let mut words = [[GARBAGE; 5]; 3];
+    // SAFETY: the pointer goes with the slice's length, and the words are this function's own.
+    let answer = unsafe { ffi::jws_member(header.as_ptr(), header.len(), k, &mut words[1]) };
+    assert_eq!([words[0], words[2]], [[GARBAGE; 5]; 2]);
+    (answer, words[1])
+}
+
+/// What a call of the verifier leaves.
+#[derive(Clone, Debug, PartialEq, Eq)]
+pub struct Verified {
+    pub answer: u8,
+    pub words: [u64; 9],
+    pub header: Vec<u8>,
+    pub payload: Vec<u8>,
+}
+
+impl Verified {
+    /// The accepted header and payload.
+    pub fn parts(&self) -> (&[u8], &[u8]) {
+        let [header, payload, ..] = self.words.map(|word| word as usize);
+        (&self.header[..header], &self.payload[..payload])
+    }
+}
+
+/// What a call of the signer leaves.
+#[derive(Clone, Debug, PartialEq, Eq)]
+pub struct Signed {
+    pub answer: u8,
+    pub length: u64,
+    pub buffer: Vec<u8>,
+}
+
+impl Signed {
+    pub fn token(&self) -> &[u8] {
+        &self.buffer[..self.length as usize]
+    }
+}
+
+/// A raw call of the proved verifier; what is lent for writing holds garbage before.
+pub fn raw_verify(token: &[u8], table: &[u8], header_len: usize, payload_len: usize) -> Verified {
+    let mut words = [[GARBAGE; 9]; 3];
+    let (mut header, mut payload) = (Lent::new(header_len), Lent::new(payload_len));
+    // SAFETY: each pointer goes with the length of its own part, and what is written is this function's own.
+    let answer = unsafe {
+        ffi::jws_verify(
+            token.as_ptr(),
+            token.len(),
+            table.as_ptr(),
+            table.len(),
+            header.part().as_mut_ptr(),
+            header_len,
+            payload.part().as_mut_ptr(),
+            payload_len,
+            &mut words[1],
+        )
+    };
+    assert_eq!([words[0], words[2]], [[GARBAGE; 9]; 2]);
+    Verified {
+        answer,
+        words: words[1],
+        header: header.taken(),
+        payload: payload.taken(),
+    }
+}
+
+/// A raw call of the proved signer; what is lent for writing holds garbage before.
+pub fn raw_sign(header: &[u8], payload: &[u8], table: &[u8], token_len: usize) -> Signed {
+    let mut length = [GARBAGE; 3];
+    let mut token = Lent::new(token_len);
+    // SAFETY: each pointer goes with the length of its own part, and what is written is this function's own.
+    let answer = unsafe {
+        ffi::jws_sign(
+            header.as_ptr(),
+            header.len(),
+            payload.as_ptr(),
+            payload.len(),
+            table.as_ptr(),
+            table.len(),
+            token.part().as_mut_ptr(),
+            token_len,
+            &mut length[1],
+        )
+    };
+    assert_eq!([length[0], length[2]], [GARBAGE; 2]);
+    Signed {
+        answer,
+        length: length[1],
+        buffer: token.taken(),
+    }
+}
+
+/// The same of the reference.
+pub fn reference_verify(token: &[u8], table: &[u8], header_len: usize, payload_len: usize) -> Verified {
+    let (mut header, mut payload) = (vec![1; header_len], vec![2; payload_len]);
+    let (answer, record) = reference::token::verify(token, table, &mut header, &mut payload);
+    Verified {
+        answer,
+        words: record.words(),
+        header,
+        payload,
+    }
+}
+
+/// The same of the reference.
+pub fn reference_sign(header: &[u8], payload: &[u8], table: &[u8], token_len: usize) -> Signed {
+    let mut buffer = vec![3; token_len];
+    let (answer, length) = reference::token::sign(header, payload, table, &mut buffer);
+    Signed {
+        answer,
+        length: length as u64,
+        buffer,
+    }
+}
+
+/// The safe function's result as raw words.
+pub fn safe_verify(token: &[u8], table: &[u8], header_len: usize, payload_len: usize) -> Verified {
+    let (mut header, mut payload) = (vec![4; header_len], vec![5; payload_len]);
+    let result = jws::verify(token, table, &mut header, &mut payload);
+    let words = result.as_ref().map_or([0; 9], |record| {
+        let typ = record.typ.clone().unwrap_or_default();
+        let cty = record.cty.clone().unwrap_or_default();
+        [
+            record.header_length,
+            record.payload_length,
+            record.key_index,
+            usize::from(record.kid_present),
+            usize::from(record.format),
+            typ.start,
+            typ.len(),
+            cty.start,
+            cty.len(),
+        ]
+        .map(|word| word as u64)
+    });
+    Verified {
+        answer: number(result),
+        words,
+        header,
+        payload,
+    }
+}
+
+/// The safe function's result as raw words.
+pub fn safe_sign(header: &[u8], payload: &[u8], table: &[u8], token_len: usize) -> Signed {
+    let mut buffer = vec![6; token_len];
+    let result = jws::sign(header, payload, table, &mut buffer);
+    Signed {
+        answer: number(result),
+        length: result.unwrap_or(0) as u64,
+        buffer,
+    }
+}
+
+fn number<T>(result: Result<T, Refusal>) -> u8 {
+    result.map_or_else(Refusal::number, |_| 0)
+}
+
+/// How many calls got each of these answers, in words.
+pub fn by_answer(calls: &[usize; 17], answers: &[usize]) -> String {
+    let counts: Vec<String> = answers
+        .iter()
+        .map(|&answer| format!("{answer}: {}", calls[answer]))
+        .collect();
+    format!("{} calls ({})", calls.iter().sum::<usize>(), counts.join(", "))
+}
+
+/// How many calls got each of the member reader's answers, in words.
+pub fn calls_by_answer(calls: &[usize; 17]) -> String {
+    by_answer(calls, &[0, 5, 7, 8, 16])
+}
+
+/// The table of one key, id `k`, HS256 and format 1, of the secret that it ends with.
+pub fn one_key() -> Vec<u8> {
+    let secret = b"a secret of thirty-two bytes, so";
+    let mut table = vec![0, 1, 0, 1, 0, 0, 0, 53, 0, 20, 0, 1, 0, 21, 0, 32, 1, 1, 0, 0, b'k'];
+    table.extend(secret);
+    table
+}

@@ -1,0 +1,76 @@
+//! The program `verify_token`, as `rt ci` makes it, in folders of its own.
+
+mod common;
+
+use std::fs;
+use std::path::{Path, PathBuf};
+use std::process::Command;
+
+const HERE: &str = env!("CARGO_MANIFEST_DIR");
+
+/// The program's standard output in a folder that has these files.
+fn output(folder: &str, table: Option<&[u8]>, token: Option<&[u8]>) -> String {
+    let program = Path::new(HERE).join("../../target/bin/verify_token");
+    assert!(program.exists(), "{} isn't there: run `rt ci` first", program.display());
+    let folder = PathBuf::from(env!("CARGO_TARGET_TMPDIR"))
+        .join("verify_token")
+        .join(folder);
+    let _ = fs::remove_dir_all(&folder);
+    fs::create_dir_all(&folder).unwrap();
+    for (name, bytes) in [("table.bin", table), ("token.txt", token)] {
+        if let Some(bytes) = bytes {
+            fs::write(folder.join(name), bytes).unwrap();
+        }
+    }
+    let output = Command::new(program.canonicalize().unwrap())
+        .current_dir(folder)
+        .output()
+        .unwrap();
+    assert_eq!(output.stderr, b"");
+    String::from_utf8(output.stdout).unwrap()
+}
+
+/// A file of RFC 7515 A.1: its token, or its key alone in a table.
+fn published(name: &str) -> Vec<u8> {
+    fs::read(Path::new(HERE).join("../../crates/verify_token/data").join(name)).unwrap()
+}
+
+#[test]
+fn published_token() {
+    let (table, token) = (published("table.bin"), published("token.txt"));
+    assert_eq!(token.len(), 179);
+    assert_eq!(
+        output("a1", Some(&table), Some(&token)),
+        "accepted key=0 fmt=1 payload=70\n"
+    );
+    let lined = [&token[..], b"\n"].concat();
+    assert_eq!(output("newline", Some(&table), Some(&lined)), "refused 4\n");
+}
+
+#[test]
+fn missing_files() {
+    let (table, token) = (published("table.bin"), published("token.txt"));
+    assert_eq!(output("none", None, None), "refused 2\n");
+    assert_eq!(output("no-table", None, Some(&token)), "refused 2\n");
+    assert_eq!(output("no-token", Some(&table), None), "refused 3\n");
+    assert_eq!(output("empty-token", Some(&table), Some(b"")), "refused 3\n");
+    assert_eq!(output("periods", Some(&table), Some(b"..")), "refused 7\n");
+}
+
+#[test]
+fn longest_files() {
+    let mut table = common::one_key();
+    let longest = common::raw_sign(br#"{"alg":"HS256"}"#, &[b'p'; 12_239], &table, 16_384).buffer;
+    let accepted = "accepted key=0 fmt=1 payload=12239\n";
+    assert_eq!(output("longest", Some(&table), Some(&longest)), accepted);
+    let longer = [&longest[..], b"A"].concat();
+    assert_eq!(output("longer", Some(&table), Some(&longer)), "refused 1\n");
+    assert_eq!(output("letters", Some(&table), Some(&[b'A'; 16_384])), "refused 3\n");
+
+    // Bytes in no area at the table's end, and the total with them.
+    for (length, expected) in [(8_192usize, accepted), (8_193, "refused 2\n")] {
+        table.resize(length, 0);
+        table[4..8].copy_from_slice(&(length as u32).to_be_bytes());
+        assert_eq!(output("table", Some(&table), Some(&longest)), expected);
+    }
+}

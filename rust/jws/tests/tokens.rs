@@ -1,0 +1,131 @@
+//! The proved verifier and signer against the reference's, on generated calls, good and damaged, and at the limits.
+
+mod common;
+
+use common::{
+    by_answer, cases, one_key, raw_sign, raw_verify, reference_sign, reference_verify, safe_sign, safe_verify,
+};
+use common::{Signed, Verified};
+
+/// Verifies by the proved code, raw and safe, and by the reference, which all agree.
+fn verify(token: &[u8], table: &[u8], header_len: usize, payload_len: usize) -> Verified {
+    let expected = reference_verify(token, table, header_len, payload_len);
+    assert_eq!(raw_verify(token, table, header_len, payload_len), expected);
+    assert_eq!(safe_verify(token, table, header_len, payload_len), expected);
+    expected
+}
+
+/// Signs by the proved code, raw and safe, and by the reference, which all agree.
+fn sign(header: &[u8], payload: &[u8], table: &[u8], token_len: usize) -> Signed {
+    let expected = reference_sign(header, payload, table, token_len);
+    assert_eq!(raw_sign(header, payload, table, token_len), expected);
+    assert_eq!(safe_sign(header, payload, table, token_len), expected);
+    expected
+}
+
+fn seen_often(calls: &[usize; 17], answers: &[usize]) {
+    for &answer in answers {
+        assert!(
+            calls[answer] >= cases() / 500,
+            "answer {answer}: {} times",
+            calls[answer]
+        );
+    }
+}
+
+#[test]
+fn verify_agrees() {
+    let mut calls = [0; 17];
+    for case in generate::verify_cases(21).take(cases()) {
+        let verified = verify(&case.token, &case.table, case.header_len, case.payload_len);
+        calls[usize::from(verified.answer)] += 1;
+        if verified.answer == 0 {
+            let (header, payload) = verified.parts();
+            let again = raw_sign(header, payload, &case.table, case.token.len());
+            assert_eq!((again.answer, again.token()), (0, &case.token[..]));
+        }
+    }
+    let answers: Vec<usize> = (0..=15).collect();
+    println!("verify: {}", by_answer(&calls, &answers));
+    seen_often(&calls, &answers);
+}
+
+#[test]
+fn sign_agrees() {
+    let mut calls = [0; 17];
+    for case in generate::sign_cases(22).take(cases()) {
+        let signed = sign(&case.header, &case.payload, &case.table, case.token_len);
+        calls[usize::from(signed.answer)] += 1;
+        if signed.answer == 0 {
+            let back = raw_verify(signed.token(), &case.table, case.header.len(), case.payload.len());
+            assert_eq!((back.answer, back.parts()), (0, (&case.header[..], &case.payload[..])));
+        }
+    }
+    let answers = [0, 1, 2, 5, 6, 7, 8, 9, 10, 11, 12, 13, 14];
+    println!("sign: {}", by_answer(&calls, &answers));
+    seen_often(&calls, &answers);
+    assert_eq!([calls[3], calls[4], calls[15], calls[16]], [0; 4]);
+}
+
+const HEADER: &[u8] = br#"{"alg":"HS256"}"#;
+
+/// 20 characters of header and 43 of signature, with two periods, leave 16,319 for the payload.
+const LONGEST_PAYLOAD: [u8; 12_239] = [b'p'; 12_239];
+
+#[test]
+fn token_lengths() {
+    let table = one_key();
+    let longest = sign(HEADER, &LONGEST_PAYLOAD, &table, 16_384);
+    assert_eq!((longest.answer, longest.length), (0, 16_384));
+    assert_eq!(verify(longest.token(), &table, 1_024, 12_288).answer, 0);
+    let longer = [longest.token(), b"A"].concat();
+    assert_eq!(verify(&longer, &table, 1_024, 12_288).answer, 1);
+    assert_eq!(verify(&longer, &[], 0, 0).answer, 1);
+    assert_eq!(sign(HEADER, &[b'p'; 12_240], &table, 20_000).answer, 1);
+    assert_eq!(verify(&[b'A'; 16_384], &table, 1_024, 12_288).answer, 3);
+    assert_eq!(verify(&[b'A'; 16_385], &table, 1_024, 12_288).answer, 1);
+    assert_eq!(verify(&vec![b'.'; 100_000], &table, 10, 10).answer, 1);
+}
+
+#[test]
+fn header_lengths() {
+    let table = one_key();
+    let padded = |length: usize| format!("{:length$}", r#"{"alg":"HS256"}"#).into_bytes();
+    let signed = sign(&padded(1_024), b"", &table, 2_000);
+    assert_eq!((signed.answer, signed.length), (0, 1_366 + 45));
+    assert_eq!(verify(signed.token(), &table, 1_024, 0).answer, 0);
+    assert_eq!(sign(&padded(1_025), b"", &table, 2_000).answer, 5);
+    let token = format!("{}..", reference::base64url::encode(&padded(1_025)));
+    assert_eq!(verify(token.as_bytes(), &table, 2_000, 0).answer, 5);
+    assert_eq!(verify(token.as_bytes(), &table, 0, 0).answer, 5);
+}
+
+#[test]
+fn buffer_lengths() {
+    let table = one_key();
+    for payload in [&b""[..], b"p", b"setpoint 21.5"] {
+        let length = reference::token::token_len(HEADER.len(), payload.len());
+        assert_eq!(sign(HEADER, payload, &table, length).answer, 0);
+        assert_eq!(sign(HEADER, payload, &table, length - 1).answer, 6);
+        assert_eq!(sign(HEADER, payload, &table, 0).answer, 6);
+        let signed = sign(HEADER, payload, &table, length + 100);
+        let (h, p) = (HEADER.len(), payload.len());
+        assert_eq!(verify(signed.token(), &table, h, p).answer, 0);
+        assert_eq!(verify(signed.token(), &table, h + 1, p + 100).answer, 0);
+        assert_eq!(verify(signed.token(), &table, h - 1, p).answer, 6);
+        if p > 0 {
+            assert_eq!(verify(signed.token(), &table, h, p - 1).answer, 6);
+        }
+    }
+}
+
+#[test]
+fn shortest_tokens() {
+    for table in [one_key(), vec![0, 1, 0, 0, 0, 0, 0, 8]] {
+        for (token, answer) in [("", 3), (".", 3), ("..", 7), ("...", 3), ("e30..", 9)] {
+            assert_eq!(verify(token.as_bytes(), &table, 2, 0).answer, answer, "{token}");
+        }
+    }
+    assert_eq!(verify(b"", &[], 0, 0).answer, 2);
+    assert_eq!(sign(b"", b"", &[], 0).answer, 2);
+}
