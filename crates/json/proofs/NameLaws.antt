@@ -16,14 +16,14 @@ use Rattle.json_grammar.specs.Scan.{namesTwice, scan-string, scan}
 use Rattle.json_string.specs.declared.End.{End}
 use Rattle.json_string.specs.declared.End.the-variants.{At, Bad}
 use Rattle.json_string.specs.Ends.{at-byte, left, shorter, fuel, ends-at, ends-bad}
-use Rattle.json_string.specs.Strings.{NameAt, SameText, StringEnds}
+use Rattle.json_string.specs.Strings.{NameAt, SameText, StringEnds, Fingerprint}
 use Rattle.json_reader.specs.Contracts.{SkipsTo, MembersEnd, readMembers}
 use Rattle.json_reader.specs.EndsLaws.{given, none}
 use Rattle.json.specs.declared.steps.Entry.{Entry}
 use Rattle.json.specs.declared.names.Search.{Search}
 use Rattle.json.specs.declared.names.Search.the-variants.{Twice, Past}
 use Rattle.json.specs.Members.{MembersAt, MembersFrom, EntryAt}
-use Rattle.json.specs.Twice.{namesOf, NamesTwice, Block, empty, one-more, crosses, Meets, Searched, ObjectTwice, TwiceFrom}
+use Rattle.json.specs.Twice.{namesOf, NamesTwice, Fingerprinted, Block, empty, one-more, crosses, Meets, Searched, ObjectTwice, TwiceFrom}
 use Rattle.json.specs.MemberLaws.{no-members}
 use Rattle.json.proofs.StepLaws.{first-name}
 
@@ -116,6 +116,25 @@ module _ {s a : List ℕ} where
   kept (one-more {k = k} {n = n} x y) j v h =
       one-more (subst (λ (p : ℕ). NameAt s p n) (sym (getD-set-other a j k v 0 (λ e. absurd (omega arith)))) x) (kept y j v (omega arith))
 
+-- THE FINGERPRINTS of the block
+
+pub fingerprinted-start : (s a m : List ℕ) → Fingerprinted s a m 0
+fingerprinted-start s a m = record { places = λ i l. absurd (omega arith); fingerprints = λ i l. absurd (omega arith) }
+
+pub fingerprinted-full : {s a m : List ℕ} {k j : ℕ} → k ≡ j → Fingerprinted s a m k → Fingerprinted s a m j
+fingerprinted-full {s} {a} {m} {k} {j} e h = subst (λ (i : ℕ). Fingerprinted s a m i) e h
+
+pub fingerprinted-next : {s a m : List ℕ} {k q : ℕ} → Fingerprinted s a m k → q ≤ length s → (x : ℕ) → Fingerprint s q x → k < length a → k < length m → Fingerprinted s (set a k q) (set m k x) (k + 1)
+fingerprinted-next {s} {a} {m} {k} {q} h l x f u v = record { places = λ i c. place i c (eqb i k) refl; fingerprints = λ i c. print i c (eqb i k) refl }
+  where
+    place : (i : ℕ) → i < k + 1 → (t : Bool) → eqb i k ≡ t → getD (set a k q) i 0 ≤ length s
+    place i c true z = let j = eqb-true i k z in rw (j, getD-set-same a k q 0 u) l
+    place i c false z = let j = eqb-false i k z in rw (getD-set-other a k i q 0 j) (h .places i (omega arith))
+
+    print : (i : ℕ) → i < k + 1 → (t : Bool) → eqb i k ≡ t → Fingerprint s (getD (set a k q) i 0) (getD (set m k x) i 0)
+    print i c true z = let j = eqb-true i k z in rw (j, getD-set-same a k q 0 u, getD-set-same m k x 0 v) f
+    print i c false z = let j = eqb-false i k z in rw (getD-set-other a k i q 0 j, getD-set-other m k i x 0 j) (h .fingerprints i (omega arith))
+
 -- WHILE THE BLOCK FILLS: the walk from `from` came to p, and the names of the k members before it are the block
 
 pub record Filled (s : List ℕ) (d : ℕ) (a : List ℕ) (k p : ℕ) (ms : LMembers) : Type 0 where
@@ -128,14 +147,12 @@ pub record Filled (s : List ℕ) (d : ℕ) (a : List ℕ) (k p : ℕ) (ms : LMem
 pub record Filling (s : List ℕ) (d from : ℕ) (a : List ℕ) (k p : ℕ) : Type 0 where
   pub low : from + k ≤ p
   pub high : p < length s
-  pub places : (i : ℕ) → i < k → getD a i 0 ≤ length s
   pub is : (ms : LMembers) → MembersAt s from d ms → Filled s d a k p ms
 
 pub filling-start : {s : List ℕ} {from : ℕ} (d : ℕ) (a : List ℕ) → from < length s → Filling s d from a 0 from
 filling-start {s} {from} d a h = record {
   low = omega arith;
   high = h;
-  places = λ i l. absurd (omega arith);
   is = λ ms m. record { block = []; stands = empty; rest = ms; here = m; agrees = sym (ap (λ (t : Bool). t || repeated (namesOf ms)) (crosses-none (namesOf ms))) };
 }
 
@@ -183,14 +200,9 @@ module _ {s : List ℕ} {from : ℕ} (d : ℕ) {a : List ℕ} {k p : ℕ} (fl : 
     filling-next {q} e l = record {
       low = omega (arith, fl .low, en .later q e .0);
       high = en .later q e .1;
-      places = λ i c. in-place i c (eqb i k) refl;
       is = λ ms m. let f = fl .is ms m in go ms f (f .rest) (f .here) (f .agrees);
     }
       where
-        in-place : (i : ℕ) → i < k + 1 → (t : Bool) → eqb i k ≡ t → getD (set a k (p + 1)) i 0 ≤ length s
-        in-place i c true z = let j = eqb-true i k z in rw (j, getD-set-same a k (p + 1) 0 l) (omega (arith, fl .high))
-        in-place i c false z = let j = eqb-false i k z in rw (getD-set-other a k i (p + 1) 0 j) (fl .places i (omega arith))
-
         go : (ms : LMembers) (f : Filled s d a k p ms) (rest : LMembers) → MembersAt s p d rest
             → repeated (namesOf ms) ≡ crosses (f .block) (namesOf rest) || repeated (namesOf rest) → Filled s d (set a k (p + 1)) (k + 1) q ms
         go ms f lnil h c = no-members d h
@@ -281,6 +293,10 @@ module _ {s : List ℕ} {from p : ℕ} (d : ℕ) (w : SkipsTo s from p) where
 
   pub object-out : length s ≤ p → ObjectTwice s from d false
   object-out h = record { is = λ n l. sym (ap (twice-at n) (w .is ∙ drop-of-length-le s h)) }
+
+  -- a closing brace comes first
+  pub object-closed : p < length s → getD s p 0 ≡ 0x7D → ObjectTwice s from d false
+  object-closed h e = record { is = λ n l. sym (ap (twice-at n) (w .is ∙ at-byte s p h ∙ ap (λ (b : ℕ). b ∷ drop (p + 1) s) e)) }
 
   -- no name stands twice: also where the members are not read to their end
   pub object-once : NamesTwice s p d false → ObjectTwice s from d false

@@ -3,12 +3,13 @@ use crate::steps::entry_at;
 use json_reader::member_list;
 use json_reader::skip_ws;
 use json_string::End;
-use json_string::same_text;
+use json_string::fingerprint;
+use json_string::same_by_fingerprint;
 use json_string::string_end;
 ghost use mathlib.Core.Path.{_≡_};
-ghost use Prim.Native.Nat.{ℕ, _≤_, _<_};
-ghost use lib.ListN.{length, getD};
-ghost use Rattle.json.specs.Twice.{NamesTwice, Meets, Searched, ObjectTwice, TwiceFrom};
+ghost use Prim.Native.Nat.{_≤_, _<_};
+ghost use lib.ListN.{length};
+ghost use Rattle.json.specs.Twice.{NamesTwice, Fingerprinted, Meets, Searched, ObjectTwice, TwiceFrom};
 
 // The search of a block of names: two are equal; or none of the block is equal to another, and the search goes on past it, if members are left.
 pub enum Search {
@@ -17,30 +18,34 @@ pub enum Search {
 }
 
 // Compares the first 64 names from `from` on with one another, and then the names after them with these.
-// A walk over members reads every value, so the places of the names in the block are kept.
+// A walk over members reads every value, so the places of the names in the block are kept, and with them their fingerprints,
+// by which most names that differ are told apart.
 fn block_twice(s: &[u8], from: usize, depth: usize) -> Search
     requires { ⌜ from < length (now s) ⌝ }
     ensures { λ r. ⌜ Searched (now (s .entry)) from depth r ⌝ }
 {
     let mut names = [0usize; 64];
+    let mut fingerprints = [0u32; 64];
     let mut count = 0;
     let mut p = from;
     'pairs: loop {
         if count == 64 {
-            if block_meets(s, &names, p, depth) {
+            if block_meets(s, &names, &fingerprints, p, depth) {
                 return Search::Twice;
             }
             return Search::Past(End::At(p));
         }
+        let print = fingerprint(s, p + 1);
         let mut i = 0;
         while i < count {
-            if same_text(s, p + 1, names[i]) {
+            if same_by_fingerprint(s, p + 1, names[i], print, fingerprints[i]) {
                 break 'pairs;
             }
             i += 1;
         }
         let m = entry_at(s, p, depth);
         names[count] = p + 1;
+        fingerprints[count] = print;
         count += 1;
         let next = m.next;
         match next {
@@ -56,15 +61,22 @@ fn block_twice(s: &[u8], from: usize, depth: usize) -> Search
 }
 
 // Whether a name from `from` on is equal to one of the 64 names of the block.
-fn block_meets(s: &[u8], names: &[usize; 64], from: usize, depth: usize) -> bool
-    requires { ⌜ (from < length (now s)) × ((i : ℕ) → i < 64 → getD (now names) i 0 ≤ length (now s)) ⌝ }
+fn block_meets(
+    s: &[u8],
+    names: &[usize; 64],
+    fingerprints: &[u32; 64],
+    from: usize,
+    depth: usize,
+) -> bool
+    requires { ⌜ (from < length (now s)) × Fingerprinted (now s) (now names) (now fingerprints) 64 ⌝ }
     ensures { λ r. ⌜ Meets (now (s .entry)) (now (names .entry)) 64 from depth r ⌝ }
 {
     let mut p = from;
     'pairs: loop {
+        let print = fingerprint(s, p + 1);
         let mut i = 0;
         while i < 64 {
-            if same_text(s, p + 1, names[i]) {
+            if same_by_fingerprint(s, p + 1, names[i], print, fingerprints[i]) {
                 break 'pairs;
             }
             i += 1;
@@ -116,6 +128,9 @@ fn object_twice(s: &[u8], from: usize, depth: usize) -> bool
 {
     let p = skip_ws(s, from);
     if p < s.len() {
+        if s[p] == 0x7D {
+            return false;
+        }
         if names_twice(s, p, depth) {
             match member_list(s, p, depth) {
                 End::At(_) => {

@@ -2,22 +2,23 @@
 use mathlib.Core.Path.{_≡_, refl, sym, ap, ap₂, _∙_, subst}
 use mathlib.Core.Bool.{Bool, true, false}
 use mathlib.Core.List.{List, [], _∷_}
-use Prim.Native.Nat.{ℕ, zero, suc, _≤_, _<_}
+use Prim.Native.Nat.{ℕ, zero, suc, _+_, _≤_, _<_}
 use native.Mathlib.Omega.{arith}
 use lib.Dec.{eqb}
 use lib.ListN.{length, drop, getD, drop-of-length-le}
 use borrow.Author.Tests.{eq-eqb, ne-eqb, eqb-true, eqb-false}
-use Rattle.common.specs.Same.{same}
-use Rattle.json_grammar.specs.Reader.{Got, got, then, over, readChar, readChars}
+use Rattle.common.specs.Decided.{test-false}
+use Rattle.common.specs.Same.{same, decides-same}
+use Rattle.json_grammar.specs.Reader.{Got, got, then, over, isUnescaped1, readChar, readChars}
 use Rattle.json_grammar.specs.ReaderLaws.{no-bad, then-inv, over-inv}
 use Rattle.json_string.specs.declared.End.{End}
 use Rattle.json_string.specs.declared.End.the-variants.{At, Bad}
 use Rattle.json_string.specs.declared.Scan.the-variants.{Code, Wrong}
 use Rattle.json_string.specs.Ends.{at-byte, farther}
-use Rattle.json_string.specs.Strings.{CharAt, NameAt, SameText, TextIs}
+use Rattle.json_string.specs.Strings.{CharAt, NameAt, SameText, TextIs, mix, mixAll, Mixed, Fingerprint}
 use Rattle.json_string.specs.Utf8.{utf8}
 use Rattle.json_string.specs.Steps.{OctetsEnd}
-use Rattle.json_string.proofs.CharLaws.{chars-step, chars-quote, none-left}
+use Rattle.json_string.proofs.CharLaws.{char-plain, plain-quote, chars-step, chars-quote, none-left}
 
 -- A STRING AT A PLACE
 
@@ -119,6 +120,37 @@ module _ (s : List ℕ) (i j : ℕ) where
               let c = name-step s j ds h′ b′ y j₂ w′ l in
               let q : same (x ∷ a .0) (y ∷ c .0) ≡ false = rw (ne-eqb x y e) in
               sym q ∙ ap₂ same (a .1) (c .1)
+
+-- FINGERPRINTS
+
+module _ (s : List ℕ) (i g : ℕ) where
+  pub mixed-out : (r : ℕ) → length s ≤ i → Mixed s i g r
+  unfolding Mixed
+  mixed-out r h cs k = name-out s i cs h k
+
+  module _ (h : i < length s) where
+    pub mixed-quote : getD s i 0 ≡ 0x22 → Mixed s i g g
+    unfolding Mixed mixAll
+    mixed-quote b cs k = sym (ap (mixAll g) (name-quote s i cs h b k))
+
+    module _ (b : getD s i 0 ≡ 0x22 → ⊥) where
+      pub mixed-wrong : (r : ℕ) → CharAt s i Wrong → Mixed s i g r
+      unfolding Mixed
+      mixed-wrong r w cs k = name-wrong s i cs h b w k
+
+      pub mixed-step : (c e x r : ℕ) → CharAt s i (Code c e) → x ≡ mix g c → Mixed s e x r → Mixed s i g r
+      unfolding Mixed mixAll
+      mixed-step c e x r w m rest cs k =
+          let a = name-step s i cs h b c e w k in
+          rest (a .0) (a .2) ∙ ap (λ (y : ℕ). mixAll y (a .0)) m ∙ ap (mixAll g) (a .1)
+
+pub mixed-plain : (s : List ℕ) (i g : ℕ) → i < length s → (c x r : ℕ) → isUnescaped1 (getD s i 0) ≡ true → c ≡ getD s i 0 → x ≡ mix g c → Mixed s (i + 1) x r → Mixed s i g r
+mixed-plain s i g h c x r e k m rest = mixed-step s i g h (plain-quote (getD s i 0) e) c (i + 1) x r (char-plain s i h c e k) m rest
+
+-- strings with other fingerprints have other code points
+pub fingerprints-differ : (s : List ℕ) (p q x y : ℕ) → Fingerprint s p x → Fingerprint s q y → (x ≡ y → ⊥) → SameText s p q false
+unfolding Mixed SameText
+fingerprints-differ s p q x y f g n cs ds k l = sym (test-false (decides-same cs ds) (λ e. n (f cs k ∙ ap (mixAll 0) e ∙ sym (g ds l))))
 
 -- A STRING AND A WORD
 

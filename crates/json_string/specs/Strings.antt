@@ -1,8 +1,8 @@
 -- What the public functions' contracts cite: characters and strings at places of a slice.
 use mathlib.Core.Path.{_≡_}
 use mathlib.Core.Bool.{Bool, cond}
-use mathlib.Core.List.{List, _++_}
-use Prim.Native.Nat.{ℕ, _+_, _≤_}
+use mathlib.Core.List.{List, [], _∷_, _++_}
+use Prim.Native.Nat.{ℕ, _+_, _*_, _%_, _≤_}
 use lib.Dec.{leb}
 use lib.ListN.{length, drop, replicate}
 use Rattle.common.specs.Same.{same}
@@ -35,6 +35,22 @@ NameAt s p cs = (n : ℕ) × (length (drop p s) ≤ n) × (r : List ℕ) × (rea
 -- r says whether the strings at p and q have the same code points
 unfoldable pub SameText : List ℕ → ℕ → ℕ → Bool → Type 0
 SameText s p q r = (cs ds : List ℕ) → NameAt s p cs → NameAt s q ds → r ≡ same cs ds
+
+-- one more code point in a fingerprint, by a multiplicative hash modulo 2^32
+abbrev pub mix : ℕ → ℕ → ℕ
+mix h c = (h * 2654435761 + c) % 4294967296
+
+unfoldable pub mixAll : ℕ → List ℕ → ℕ
+mixAll h [] = h
+mixAll h (c ∷ cs) = mixAll (mix h c) cs
+
+-- r is what mixing the code points of the string at p into h gives
+unfoldable pub Mixed : List ℕ → ℕ → ℕ → ℕ → Type 0
+Mixed s p h r = (cs : List ℕ) → NameAt s p cs → r ≡ mixAll h cs
+
+-- r is the fingerprint of the string at p
+abbrev pub Fingerprint : List ℕ → ℕ → ℕ → Type 0
+Fingerprint s p r = Mixed s p 0 r
 
 -- r says whether the string at p, in UTF-8, is the word w
 unfoldable pub TextIs : List ℕ → ℕ → List ℕ → Bool → Type 0

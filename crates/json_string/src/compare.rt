@@ -1,12 +1,15 @@
 // Strings compared after their escapes are resolved. Each is given by the place of its first character.
+ghost use mathlib.Core.Path.{_≡_};
 ghost use Prim.Native.Nat.{_≤_};
 ghost use lib.ListN.{length};
-ghost use Rattle.json_string.specs.Strings.{SameText, TextIs};
+ghost use Rattle.json_string.specs.Strings.{SameText, TextIs, mix, Fingerprint};
 ghost use Rattle.json_string.specs.Steps.{OctetsEnd};
 use crate::End;
 use crate::Scan;
+use crate::classes::is_unescaped1;
 use crate::strings::char_at;
 use crate::utf8::octets_of;
+use common::wide;
 
 // Whether the strings at p and q have the same code points. Rules out a prefix taken for the whole, and strings compared as they
 // are written, before their escapes are resolved.
@@ -41,6 +44,52 @@ pub fn same_text(s: &[u8], p: usize, q: usize) -> bool
         } else {
             return false;
         }
+    }
+    false
+}
+
+// Mixes one more code point into a fingerprint.
+fn mixed(h: u32, c: u32) -> u32
+    ensures { λ r. ⌜ r ≡ mix h c ⌝ }
+{
+    ((h as u64 * 2654435761 + c as u64) % 4294967296) as u32
+}
+
+// A number that strings with the same code points share, and most others do not. Rules out two numbers for two writings of one
+// character, and a number of the last character alone.
+pub fn fingerprint(s: &[u8], p: usize) -> u32
+    requires { ⌜ p ≤ length (now s) ⌝ }
+    ensures { λ r. ⌜ Fingerprint (now (s .entry)) p r ⌝ }
+{
+    let mut at = p;
+    let mut h: u32 = 0;
+    while at < s.len() {
+        let b = s[at];
+        if is_unescaped1(b) {
+            h = mixed(h, wide(b));
+            at += 1;
+        } else {
+            if b == 0x22 {
+                return h;
+            }
+            let Scan::Code(c, next) = char_at(s, at) else {
+                return 0;
+            };
+            h = mixed(h, c);
+            at = next;
+        }
+    }
+    0
+}
+
+// Whether the strings at p and q, whose fingerprints are f and g, have the same code points. Rules out strings with one
+// fingerprint taken for different ones, and a string compared with itself.
+pub fn same_by_fingerprint(s: &[u8], p: usize, q: usize, f: u32, g: u32) -> bool
+    requires { ⌜ (p ≤ length (now s)) × (q ≤ length (now s)) × Fingerprint (now s) p f × Fingerprint (now s) q g ⌝ }
+    ensures { λ r. ⌜ SameText (now (s .entry)) p q r ⌝ }
+{
+    if f == g {
+        return same_text(s, p, q);
     }
     false
 }

@@ -6,6 +6,8 @@ mod strings; // strings.rt: the character at a place, the end of a string
 mod compare; // compare.rt: strings compared after escapes are resolved
 mod resolving; // resolving.rt: a string's value as UTF-8
 
+pub use compare::fingerprint;
+pub use compare::same_by_fingerprint;
 pub use compare::same_text;
 pub use compare::text_is;
 pub use resolving::resolve;

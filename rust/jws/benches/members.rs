@@ -1,5 +1,7 @@
 //! Times the proved member reader beside the reference's, both in one run; then searches a family of headers of at most 1,024
 //! bytes for those that take the proved reader longest. `cargo bench -p jws`.
+//!
+//! Under `cargo test` nothing is timed: the answers to these headers are compared.
 
 mod shapes;
 
@@ -7,43 +9,63 @@ use std::hint::black_box;
 
 use timing::{least, least_of_both, report};
 
+const ROUNDS: usize = 1_000;
+const SEARCH_ROUNDS: usize = 25;
+
+/// Member `k`'s words, or the refusal's number.
+type Answer = Result<[u64; 5], u8>;
+
+fn proved(header: &[u8], k: usize) -> Answer {
+    let member = jws::member(black_box(header), k).map_err(|refusal| refusal.number())?;
+    let places = [member.name.start, member.name.end, member.value.start, member.value.end];
+    let [a, b, c, d] = places.map(|place| place as u64);
+    Ok([member.kind as u64, a, b, c, d])
+}
+
+fn reference(header: &[u8], k: usize) -> Answer {
+    reference::json::member(black_box(header), k).map(|member| member.words())
+}
+
 fn main() {
-    let timed = std::env::args().any(|word| word == "--bench");
-    let (rounds, search_rounds) = if timed { (1_000, 25) } else { (1, 1) };
-
-    let plain = shapes::plain();
-    for (header, names) in [
-        (&plain, "names that differ early"),
-        (&shapes::alike(), "names alike but for the end"),
-    ] {
-        let walk = || (0..20).all(|k| jws::member(black_box(header), k).is_ok());
-        let reference_walk = || (0..20).all(|k| reference::json::member(black_box(header), k).is_ok());
-        println!("a header of {} bytes with 20 members, {names}:", header.len());
-        for k in [0, 19] {
-            let both = least_of_both(
-                rounds,
-                || drop(black_box(jws::member(black_box(header), k))),
-                || drop(black_box(reference::json::member(black_box(header), k))),
-            );
-            report(&format!("  member {k}"), both);
-        }
-        let both = least_of_both(
-            rounds / 10 + 1,
-            || assert!(black_box(walk())),
-            || assert!(black_box(reference_walk())),
-        );
-        report("  all 20, one by one", both);
+    if std::env::args().any(|word| word == "--bench") {
+        beside_reference();
+        longest();
+    } else {
+        compare();
     }
+}
 
-    let unit = least(rounds, || drop(black_box(jws::member(black_box(&plain), 0))));
+fn compare() {
+    for (name, header) in shapes::all() {
+        for k in [0, 63, 64, usize::MAX] {
+            assert_eq!(proved(&header, k), reference(&header, k), "member {k}, {name}");
+        }
+    }
+}
+
+fn beside_reference() {
+    for (header, names) in [
+        (shapes::plain(), "names that differ early"),
+        (shapes::alike(), "names alike but for the end"),
+    ] {
+        println!("a header of {} bytes with 20 members, {names}:", header.len());
+        for (name, members) in [("member 0", 0..1), ("member 19", 19..20), ("all 20, one by one", 0..20)] {
+            let walk = |read: fn(&[u8], usize) -> Answer| assert!(members.clone().all(|k| read(&header, k).is_ok()));
+            let both = least_of_both(ROUNDS / members.len(), || walk(proved), || walk(reference));
+            report(&format!("  {name}"), both);
+        }
+    }
+}
+
+fn longest() {
+    let plain = shapes::plain();
+    let unit = least(ROUNDS, || proved(&plain, 0));
+    // Past the last member: the header is read and walked whole.
+    let past = usize::MAX;
     let mut times: Vec<(f64, String, Vec<u8>)> = shapes::all()
         .into_iter()
         .map(|(name, header)| {
-            assert!(header.len() <= 1_024, "{name}");
-            // Past the last member: the header is read and walked whole.
-            let time = least(search_rounds, || {
-                drop(black_box(jws::member(black_box(&header), usize::MAX)))
-            });
+            let time = least(SEARCH_ROUNDS, || proved(&header, past));
             (time, name, header)
         })
         .collect();
@@ -53,14 +75,9 @@ fn main() {
         times.len()
     );
     for (_, name, header) in times.iter().take(8) {
-        let answer = jws::member(header, usize::MAX).map_or_else(|refusal| refusal.number(), |_| 0);
-        let (ours, theirs) = least_of_both(
-            rounds / 20 + 1,
-            || drop(black_box(jws::member(black_box(header), usize::MAX))),
-            || drop(black_box(reference::json::member(black_box(header), usize::MAX))),
-        );
+        let (ours, theirs) = least_of_both(ROUNDS / 20, || proved(header, past), || reference(header, past));
         println!(
-            "  {:5.1} times: {ours:.0} ns (Rust {theirs:.0} ns), answer {answer}, {} bytes: {name}",
+            "  {:.1} times: {ours:.0} ns (Rust {theirs:.0} ns), {} bytes: {name}",
             ours / unit,
             header.len()
         );

@@ -111,7 +111,10 @@ fn wrapped(add: &mut impl FnMut(String, String), name: &str, depth: usize, value
 /// The family: each header with what it is.
 pub fn all() -> Vec<(String, Vec<u8>)> {
     let mut all = Vec::new();
-    let mut add = |name: String, header: String| all.push((name, header.into_bytes()));
+    let mut add = |name: String, header: String| {
+        assert!(header.len() <= MAX, "{name}");
+        all.push((name, header.into_bytes()));
+    };
 
     // Many names in one object, which differ after some equal characters.
     for tail in Written::ALL {

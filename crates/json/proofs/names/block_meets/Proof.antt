@@ -11,34 +11,46 @@ use Rattle.json.proofs.names.block_meets.Statement.{statement}
 use Rattle.json.proofs.names.block_meets.Tie as tie
 
 abbrev Inv-loop : tie.InvT-loop
-Inv-loop s names from depth p i₀ i = (i ≤ 64) × Without s names i (p + 1)
+Inv-loop s names fingerprints from depth p print i₀ i = (i ≤ 64) × Without s names i (p + 1)
 
 abbrev μ-loop : tie.MeasureT-loop
-μ-loop s names from depth p i₀ i = 64 - i
+μ-loop s names fingerprints from depth p print i₀ i = 64 - i
 
 abbrev Inv-pairs : tie.InvT-pairs
-Inv-pairs s names from depth p₀ p = (p < length s) × ((r : Bool) → Meets s names 64 p depth r → Meets s names 64 from depth r)
+Inv-pairs s names fingerprints from depth p₀ p = (p < length s) × ((r : Bool) → Meets s names 64 p depth r → Meets s names 64 from depth r)
 
 abbrev μ-pairs : tie.MeasureT-pairs
-μ-pairs s names from depth p₀ p = length s - p
+μ-pairs s names fingerprints from depth p₀ p = length s - p
 
 pairs-holds : tie.Need-pairs-holds Inv-loop μ-loop Inv-pairs μ-pairs
 pairs-holds c = (omega arith, λ r h. h)
 
+add-fingerprint : tie.Need-add-fingerprint Inv-loop μ-loop Inv-pairs μ-pairs
+add-fingerprint c = omega arith
+
+fingerprint-requires : tie.Need-fingerprint-requires Inv-loop μ-loop Inv-pairs μ-pairs
+fingerprint-requires c κs = omega (arith, c .pairs .inv .0)
+
 loop-holds : tie.Need-loop-holds Inv-loop μ-loop Inv-pairs μ-pairs
 loop-holds c = (omega arith, law.without-start _)
 
-add-same-text : tie.Need-add-same-text Inv-loop μ-loop Inv-pairs μ-pairs
-add-same-text c = omega arith
+add-same-by-fingerprint : tie.Need-add-same-by-fingerprint Inv-loop μ-loop Inv-pairs μ-pairs
+add-same-by-fingerprint c = omega arith
 
-mul-same-text : tie.Need-mul-same-text Inv-loop μ-loop Inv-pairs μ-pairs
-mul-same-text c = search needs
+mul-same-by-fingerprint : tie.Need-mul-same-by-fingerprint Inv-loop μ-loop Inv-pairs μ-pairs
+mul-same-by-fingerprint c = search needs
 
-element-copy-out-same-text : tie.Need-element-copy-out-same-text Inv-loop μ-loop Inv-pairs μ-pairs
-element-copy-out-same-text c = omega arith
+element-copy-out-same-by-fingerprint : tie.Need-element-copy-out-same-by-fingerprint Inv-loop μ-loop Inv-pairs μ-pairs
+element-copy-out-same-by-fingerprint c = omega arith
 
-same-text-requires : tie.Need-same-text-requires Inv-loop μ-loop Inv-pairs μ-pairs
-same-text-requires c κs = (omega (arith, c .before .before .before .pairs .inv .0), c .before .before .before .before .before .pre .1 _ (c .before .loop-test .taken))
+mul-same-by-fingerprint-2 : tie.Need-mul-same-by-fingerprint-2 Inv-loop μ-loop Inv-pairs μ-pairs
+mul-same-by-fingerprint-2 c = search needs
+
+element-copy-out-same-by-fingerprint-2 : tie.Need-element-copy-out-same-by-fingerprint-2 Inv-loop μ-loop Inv-pairs μ-pairs
+element-copy-out-same-by-fingerprint-2 c = omega arith
+
+same-by-fingerprint-requires : tie.Need-same-by-fingerprint-requires Inv-loop μ-loop Inv-pairs μ-pairs
+same-by-fingerprint-requires c κs = let t = c .before .before .loop-test .taken in let m = c .before .before .before .before .before .before .before .pre .1 in (omega (arith, c .before .before .before .before .before .pairs .inv .0), m .places _ t, c .before .before .before .before .fingerprint .ensures, m .fingerprints _ t)
 
 add-i : tie.Need-add-i Inv-loop μ-loop Inv-pairs μ-pairs
 add-i c = omega arith
@@ -47,7 +59,7 @@ loop-less : tie.Need-loop-less Inv-loop μ-loop Inv-pairs μ-pairs
 loop-less c = omega arith
 
 loop-again : tie.Need-loop-again Inv-loop μ-loop Inv-pairs μ-pairs
-loop-again c = (omega arith, law.without-next (c .before .before .before .before .loop .inv .1) (law.texts _ _ _ (c .if1 .left) (c .before .same-text .ensures)))
+loop-again c = (omega arith, law.without-next (c .before .before .before .before .before .loop .inv .1) (law.texts _ _ _ (c .if1 .left) (c .before .same-by-fingerprint .ensures)))
 
 entry-at-requires : tie.Need-entry-at-requires Inv-loop μ-loop Inv-pairs μ-pairs
 entry-at-requires c κs = omega arith
@@ -59,16 +71,16 @@ pairs-less : tie.Need-pairs-less Inv-loop μ-loop Inv-pairs μ-pairs
 pairs-less c = let k = c .before .before .before .entry-at .ensures .later _ (c .before .next .given .1) in omega (arith, k .0, k .1)
 
 pairs-again : tie.Need-pairs-again Inv-loop μ-loop Inv-pairs μ-pairs
-pairs-again c = (c .before .before .before .entry-at .ensures .later _ (c .before .next .given .1) .1, λ r h. c .before .before .before .before .before .before .pairs .inv .1 r (law.meets-next _ (law.without-all (c .before .before .before .before .before .loop .inv .1) (c .before .before .before .before .before .loop .inv .0) (c .before .before .before .before .loop-test .left)) (c .before .before .before .entry-at .ensures) (c .before .next .given .1) h))
+pairs-again c = (c .before .before .before .entry-at .ensures .later _ (c .before .next .given .1) .1, λ r h. c .before .before .before .before .before .before .before .pairs .inv .1 r (law.meets-next _ (law.without-all (c .before .before .before .before .before .loop .inv .1) (c .before .before .before .before .before .loop .inv .0) (c .before .before .before .before .loop-test .left)) (c .before .before .before .entry-at .ensures) (c .before .next .given .1) h))
 
 enum-told : tie.Need-enum-told Inv-loop μ-loop Inv-pairs μ-pairs
 enum-told c = search needs
 
 returns : tie.Need-returns Inv-loop μ-loop Inv-pairs μ-pairs
-returns c = c .before .before .before .before .before .pairs .inv .1 _ (law.meets-last _ (law.without-all (c .before .before .before .before .loop .inv .1) (c .before .before .before .before .loop .inv .0) (c .before .before .before .loop-test .left)) (c .before .before .entry-at .ensures) (c .enum-told .given .1))
+returns c = c .before .before .before .before .before .before .pairs .inv .1 _ (law.meets-last _ (law.without-all (c .before .before .before .before .loop .inv .1) (c .before .before .before .before .loop .inv .0) (c .before .before .before .loop-test .left)) (c .before .before .entry-at .ensures) (c .enum-told .given .1))
 
 returns-2 : tie.Need-returns-2 Inv-loop μ-loop Inv-pairs μ-pairs
-returns-2 c = c .before .before .before .before .before .pairs .inv .1 _ (law.meets-found _ _ _ _ (c .before .before .before .loop-test .taken) (law.texts _ _ _ (c .if1 .taken) (c .before .same-text .ensures)))
+returns-2 c = c .before .before .before .before .before .before .before .pairs .inv .1 _ (law.meets-found _ _ _ _ (c .before .before .before .before .loop-test .taken) (law.texts _ _ _ (c .if1 .taken) (c .before .same-by-fingerprint .ensures)))
 
 pub block-meets-spec : {M : Type 1} → statement M
 block-meets-spec =
@@ -79,11 +91,15 @@ block-meets-spec =
     Inv-pairs
     μ-pairs
     pairs-holds
+    add-fingerprint
+    fingerprint-requires
     loop-holds
-    add-same-text
-    mul-same-text
-    element-copy-out-same-text
-    same-text-requires
+    add-same-by-fingerprint
+    mul-same-by-fingerprint
+    element-copy-out-same-by-fingerprint
+    mul-same-by-fingerprint-2
+    element-copy-out-same-by-fingerprint-2
+    same-by-fingerprint-requires
     add-i
     loop-less
     loop-again

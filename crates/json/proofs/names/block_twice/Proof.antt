@@ -5,49 +5,63 @@ use Prim.Native.Nat.{_+_, _-_, _≤_}
 use native.Mathlib.Omega.{arith}
 use lib.ListN.{length}
 use borrow.Author.Needs.{needs}
+use Rattle.json.specs.Twice.{Fingerprinted}
 use Rattle.json.proofs.NameLaws.{Without, Filling}
 use Rattle.json.proofs.NameLaws as law
 use Rattle.json.proofs.names.block_twice.Statement.{statement}
 use Rattle.json.proofs.names.block_twice.Tie as tie
 
 abbrev Inv-loop : tie.InvT-loop
-Inv-loop s from depth names count p i₀ i = (i ≤ count) × Without s names i (p + 1)
+Inv-loop s from depth names fingerprints count p print i₀ i = (i ≤ count) × Without s names i (p + 1)
 
 abbrev μ-loop : tie.MeasureT-loop
-μ-loop s from depth names count p i₀ i = count - i
+μ-loop s from depth names fingerprints count p print i₀ i = count - i
 
 abbrev Inv-pairs : tie.InvT-pairs
-Inv-pairs s from depth names₀ count₀ p₀ names count p = (count ≤ 64) × (length names ≡ 64) × Filling s depth from names count p
+Inv-pairs s from depth names₀ fingerprints₀ count₀ p₀ names fingerprints count p =
+    (count ≤ 64) × (length names ≡ 64) × (length fingerprints ≡ 64) × Fingerprinted s names fingerprints count × Filling s depth from names count p
 
 abbrev μ-pairs : tie.MeasureT-pairs
-μ-pairs s from depth names₀ count₀ p₀ names count p = 64 - count
+μ-pairs s from depth names₀ fingerprints₀ count₀ p₀ names fingerprints count p = 64 - count
 
 pairs-holds : tie.Need-pairs-holds Inv-loop μ-loop Inv-pairs μ-pairs
-pairs-holds c = (omega arith, refl, law.filling-start _ _ (omega arith))
+pairs-holds c = (omega arith, refl, refl, law.fingerprinted-start _ _ _, law.filling-start _ _ (omega arith))
 
 block-meets-requires : tie.Need-block-meets-requires Inv-loop μ-loop Inv-pairs μ-pairs
-block-meets-requires c κs = let f = law.full (c .before .if1 .taken) (c .before .before .pairs .inv .2) in (f .high, f .places)
+block-meets-requires c κs = let e = c .before .before .if1 .taken in let i = c .before .before .before .pairs .inv in (law.full e (i .4) .high, law.fingerprinted-full e (i .3))
 
 returns : tie.Need-returns Inv-loop μ-loop Inv-pairs μ-pairs
-returns c = law.filling-met _ (law.full (c .before .before .before .if1 .taken) (c .before .before .before .before .pairs .inv .2)) (c .before .block-meets .ensures) (c .if2 .taken)
+returns c = law.filling-met _ (law.full (c .before .before .before .before .if1 .taken) (c .before .before .before .before .before .pairs .inv .4)) (c .before .block-meets .ensures) (c .if2 .taken)
 
 returns-2 : tie.Need-returns-2 Inv-loop μ-loop Inv-pairs μ-pairs
-returns-2 c = law.filling-past _ (law.full (c .before .before .before .if1 .taken) (c .before .before .before .before .pairs .inv .2)) (c .before .block-meets .ensures) (c .if2 .left) (omega arith)
+returns-2 c = law.filling-past _ (law.full (c .before .before .before .before .if1 .taken) (c .before .before .before .before .before .pairs .inv .4)) (c .before .block-meets .ensures) (c .if2 .left) (omega arith)
+
+add-fingerprint : tie.Need-add-fingerprint Inv-loop μ-loop Inv-pairs μ-pairs
+add-fingerprint c = omega (arith, c .before .pairs .inv .4 .high)
+
+fingerprint-requires : tie.Need-fingerprint-requires Inv-loop μ-loop Inv-pairs μ-pairs
+fingerprint-requires c κs = omega (arith, c .before .pairs .inv .4 .high)
 
 loop-holds : tie.Need-loop-holds Inv-loop μ-loop Inv-pairs μ-pairs
 loop-holds c = (omega arith, law.without-start _)
 
-add-same-text : tie.Need-add-same-text Inv-loop μ-loop Inv-pairs μ-pairs
-add-same-text c = omega arith
+add-same-by-fingerprint : tie.Need-add-same-by-fingerprint Inv-loop μ-loop Inv-pairs μ-pairs
+add-same-by-fingerprint c = omega arith
 
-mul-same-text : tie.Need-mul-same-text Inv-loop μ-loop Inv-pairs μ-pairs
-mul-same-text c = search needs
+mul-same-by-fingerprint : tie.Need-mul-same-by-fingerprint Inv-loop μ-loop Inv-pairs μ-pairs
+mul-same-by-fingerprint c = search needs
 
-array-read-same-text : tie.Need-array-read-same-text Inv-loop μ-loop Inv-pairs μ-pairs
-array-read-same-text c = omega arith
+array-read-same-by-fingerprint : tie.Need-array-read-same-by-fingerprint Inv-loop μ-loop Inv-pairs μ-pairs
+array-read-same-by-fingerprint c = omega arith
 
-same-text-requires : tie.Need-same-text-requires Inv-loop μ-loop Inv-pairs μ-pairs
-same-text-requires c κs = (omega (arith, c .before .before .before .pairs .inv .2 .high), c .before .before .before .pairs .inv .2 .places _ (c .loop-test .taken))
+mul-same-by-fingerprint-2 : tie.Need-mul-same-by-fingerprint-2 Inv-loop μ-loop Inv-pairs μ-pairs
+mul-same-by-fingerprint-2 c = search needs
+
+array-read-same-by-fingerprint-2 : tie.Need-array-read-same-by-fingerprint-2 Inv-loop μ-loop Inv-pairs μ-pairs
+array-read-same-by-fingerprint-2 c = omega arith
+
+same-by-fingerprint-requires : tie.Need-same-by-fingerprint-requires Inv-loop μ-loop Inv-pairs μ-pairs
+same-by-fingerprint-requires c κs = let i = c .before .before .before .before .pairs .inv in let t = c .loop-test .taken in (omega (arith, i .4 .high), i .3 .places _ t, c .before .before .fingerprint .ensures, i .3 .fingerprints _ t)
 
 add-i : tie.Need-add-i Inv-loop μ-loop Inv-pairs μ-pairs
 add-i c = omega arith
@@ -56,7 +70,7 @@ loop-less : tie.Need-loop-less Inv-loop μ-loop Inv-pairs μ-pairs
 loop-less c = omega arith
 
 loop-again : tie.Need-loop-again Inv-loop μ-loop Inv-pairs μ-pairs
-loop-again c = (omega arith, law.without-next (c .before .before .before .loop .inv .1) (law.texts _ _ _ (c .if3 .left) (c .before .same-text .ensures)))
+loop-again c = (omega arith, law.without-next (c .before .before .before .loop .inv .1) (law.texts _ _ _ (c .if3 .left) (c .before .same-by-fingerprint .ensures)))
 
 entry-at-requires : tie.Need-entry-at-requires Inv-loop μ-loop Inv-pairs μ-pairs
 entry-at-requires c κs = omega arith
@@ -70,6 +84,12 @@ mul-names c = search needs
 array-write-names : tie.Need-array-write-names Inv-loop μ-loop Inv-pairs μ-pairs
 array-write-names c = omega arith
 
+mul-fingerprints : tie.Need-mul-fingerprints Inv-loop μ-loop Inv-pairs μ-pairs
+mul-fingerprints c = search needs
+
+array-write-fingerprints : tie.Need-array-write-fingerprints Inv-loop μ-loop Inv-pairs μ-pairs
+array-write-fingerprints c = omega arith
+
 add-count : tie.Need-add-count Inv-loop μ-loop Inv-pairs μ-pairs
 add-count c = omega arith
 
@@ -80,16 +100,23 @@ pairs-less : tie.Need-pairs-less Inv-loop μ-loop Inv-pairs μ-pairs
 pairs-less c = omega arith
 
 pairs-again : tie.Need-pairs-again Inv-loop μ-loop Inv-pairs μ-pairs
-pairs-again c = (omega arith, simp length-set (c .before .before .before .before .before .before .before .pairs .inv .1), law.filling-next _ (c .before .before .before .before .before .before .before .pairs .inv .2) (law.without-all (c .before .before .before .before .before .loop .inv .1) (c .before .before .before .before .before .loop .inv .0) (c .before .before .before .before .loop-test .left)) (c .before .before .before .entry-at .ensures) (c .before .next .given .1) (omega (arith, c .before .before .before .before .before .before .before .pairs .inv .1)))
+pairs-again c =
+    let i = c .before .before .before .before .before .before .before .before .pairs .inv in (
+      omega arith,
+      simp length-set (i .1),
+      simp length-set (i .2),
+      law.fingerprinted-next (i .3) (omega (arith, i .4 .high)) _ (c .before .before .before .before .before .before .fingerprint .ensures) (omega (arith, i .1)) (omega (arith, i .2)),
+      law.filling-next _ (i .4) (law.without-all (c .before .before .before .before .before .loop .inv .1) (c .before .before .before .before .before .loop .inv .0) (c .before .before .before .before .loop-test .left)) (c .before .before .before .entry-at .ensures) (c .before .next .given .1) (omega (arith, i .1)),
+    )
 
 enum-told : tie.Need-enum-told Inv-loop μ-loop Inv-pairs μ-pairs
 enum-told c = search needs
 
 returns-3 : tie.Need-returns-3 Inv-loop μ-loop Inv-pairs μ-pairs
-returns-3 c = law.filling-last _ (c .before .before .before .before .before .before .pairs .inv .2) (law.without-all (c .before .before .before .before .loop .inv .1) (c .before .before .before .before .loop .inv .0) (c .before .before .before .loop-test .left)) (c .before .before .entry-at .ensures) (c .enum-told .given .1)
+returns-3 c = law.filling-last _ (c .before .before .before .before .before .before .before .pairs .inv .4) (law.without-all (c .before .before .before .before .loop .inv .1) (c .before .before .before .before .loop .inv .0) (c .before .before .before .loop-test .left)) (c .before .before .entry-at .ensures) (c .enum-told .given .1)
 
 returns-4 : tie.Need-returns-4 Inv-loop μ-loop Inv-pairs μ-pairs
-returns-4 c = law.filling-found _ (c .before .before .before .before .before .pairs .inv .2) _ (c .before .before .loop-test .taken) (law.texts _ _ _ (c .if3 .taken) (c .before .same-text .ensures))
+returns-4 c = law.filling-found _ (c .before .before .before .before .before .before .pairs .inv .4) _ (c .before .before .loop-test .taken) (law.texts _ _ _ (c .if3 .taken) (c .before .same-by-fingerprint .ensures))
 
 pub block-twice-spec : {M : Type 1} → statement M
 block-twice-spec =
@@ -103,11 +130,15 @@ block-twice-spec =
     block-meets-requires
     returns
     returns-2
+    add-fingerprint
+    fingerprint-requires
     loop-holds
-    add-same-text
-    mul-same-text
-    array-read-same-text
-    same-text-requires
+    add-same-by-fingerprint
+    mul-same-by-fingerprint
+    array-read-same-by-fingerprint
+    mul-same-by-fingerprint-2
+    array-read-same-by-fingerprint-2
+    same-by-fingerprint-requires
     add-i
     loop-less
     loop-again
@@ -115,6 +146,8 @@ block-twice-spec =
     add-names
     mul-names
     array-write-names
+    mul-fingerprints
+    array-write-fingerprints
     add-count
     enum-known-next
     pairs-less
