@@ -3,27 +3,28 @@
 #![forbid(unsafe_code)]
 #![warn(missing_docs)]
 
+use std::hint::black_box;
 use std::time::Instant;
 
 /// Calls that are timed together.
 const CALLS: u32 = 8;
 
 /// The time of one call in nanoseconds, by [`CALLS`] of them.
-fn sample(call: &mut impl FnMut()) -> f64 {
+fn sample<T>(call: &mut impl FnMut() -> T) -> f64 {
     let start = Instant::now();
     for _ in 0..CALLS {
-        call();
+        black_box(call());
     }
     start.elapsed().as_nanos() as f64 / f64::from(CALLS)
 }
 
 /// The least time of one call in nanoseconds.
-pub fn least(rounds: usize, mut call: impl FnMut()) -> f64 {
+pub fn least<T>(rounds: usize, mut call: impl FnMut() -> T) -> f64 {
     (0..rounds).fold(f64::MAX, |best, _| best.min(sample(&mut call)))
 }
 
 /// The least time of one call in nanoseconds, of each of the two, taken in turn.
-pub fn least_of_both(rounds: usize, mut ours: impl FnMut(), mut theirs: impl FnMut()) -> (f64, f64) {
+pub fn least_of_both<T, U>(rounds: usize, mut ours: impl FnMut() -> T, mut theirs: impl FnMut() -> U) -> (f64, f64) {
     (0..rounds).fold((f64::MAX, f64::MAX), |best, _| {
         (best.0.min(sample(&mut ours)), best.1.min(sample(&mut theirs)))
     })

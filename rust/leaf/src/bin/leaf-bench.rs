@@ -18,24 +18,16 @@ fn main() {
             &format!("SHA-256 of {length} bytes"),
             least_of_both(
                 ROUNDS,
-                || {
-                    black_box(leaf::sha256(black_box(m)));
-                },
-                || {
-                    black_box(reference::sha256::digest(black_box(m)));
-                },
+                || leaf::sha256(black_box(m)),
+                || reference::sha256::digest(black_box(m)),
             ),
         );
         report(
             &format!("HMAC-SHA-256 of {length} bytes"),
             least_of_both(
                 ROUNDS,
-                || {
-                    black_box(leaf::hmac_sha256(black_box(&bytes[..32]), black_box(m)));
-                },
-                || {
-                    black_box(reference::hmac::hmac_sha256(black_box(&bytes[..32]), black_box(m)));
-                },
+                || leaf::hmac_sha256(black_box(&bytes[..32]), black_box(m)),
+                || reference::hmac::hmac_sha256(black_box(&bytes[..32]), black_box(m)),
             ),
         );
     }
@@ -45,12 +37,8 @@ fn main() {
             &format!("base64url decoding of {length} characters"),
             least_of_both(
                 ROUNDS,
-                || {
-                    black_box(leaf::decode(black_box(t), black_box(&mut a)));
-                },
-                || {
-                    black_box(reference::base64url::decode_into(black_box(t), black_box(&mut b)).is_ok());
-                },
+                || leaf::decode(black_box(t), black_box(&mut a)),
+                || reference::base64url::decode_into(black_box(t), black_box(&mut b)).is_ok(),
             ),
         );
         let m = &bytes[..length / 4 * 3];
@@ -58,12 +46,8 @@ fn main() {
             &format!("base64url encoding to {length} characters"),
             least_of_both(
                 ROUNDS,
-                || {
-                    black_box(leaf::encode(black_box(m), black_box(&mut a)));
-                },
-                || {
-                    black_box(reference::base64url::encode_into(black_box(m), black_box(&mut b)).is_ok());
-                },
+                || leaf::encode(black_box(m), black_box(&mut a)),
+                || reference::base64url::encode_into(black_box(m), black_box(&mut b)).is_ok(),
             ),
         );
     }
