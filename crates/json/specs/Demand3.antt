@@ -1,12 +1,14 @@
 -- Demand 3: the member reader answers by the grammar. Its refusals, when a header is read, and what is shown of a member.
 use mathlib.Core.Path.{_≡_, refl, sym, ap, _∙_, subst}
 use mathlib.Core.Logic.{_↔_, _⊎_, inl, inr, ⊎-elim}
-use mathlib.Core.Bool.{Bool, true, false, not}
+use mathlib.Core.Bool.{Bool, true, false, not, _||_}
 use mathlib.Core.List.{List, [], _∷_, _++_}
 use Prim.Native.Nat.{ℕ, zero, suc, _≤_, _<_}
 use native.Mathlib.Omega.{arith}
-use lib.Dec.{ltb}
+use lib.Dec.{ltb, eqb}
 use lib.ListN.{length}
+use borrow.Author.Tests.{ltb-false, ne-eqb}
+use Rattle.common.specs.Decided.{test-false}
 use Rattle.common.specs.First.{Rule, _on_, Test, _when_, first, among, condition, earlier, NoneOf, Decides, holds, fails, Agree, done, _by_}
 use Rattle.common.specs.First.{first-stands, none-stands, in-range, agree-append, decides-bool, decides-lt, decides-not, decides-iff, stable}
 use Rattle.json_grammar.specs.Value.{Members, mnil, mcons, objectV, twice, LMembers, lnil, lcons, named, plain, plainMembers}
@@ -144,6 +146,10 @@ pub header-first : (h : List ℕ) (n : ℕ) → among n (5 ∷ 7 ∷ 8 ∷ []) �
 unfolding checked
 header-first h n e = first-stands (header-agree h) refl n e
 
+pub header-range : (h : List ℕ) → among (checked h) (0 ∷ 5 ∷ 7 ∷ 8 ∷ []) ≡ true
+unfolding checked
+header-range h = in-range (header-agree h)
+
 pub header-none : (h : List ℕ) → (checked h ≡ 0) ↔ NoneOf (headerRules h)
 unfolding checked
 header-none h = none-stands (header-agree h) refl
@@ -185,9 +191,17 @@ module _ (h : List ℕ) where
 
 -- READ EXACTLY WHEN DERIVED
 
--- some derivation of h has depth at most 8 and no name twice in one object
+-- the member reader's number for member k of h
+abbrev pub memberNumber : List ℕ → ℕ → ℕ
+memberNumber h k = numberOf (memberOf h k)
+
+-- "A header is "read" when the member reader, whichever member it is asked for, answers 0 or 16."
 abbrev pub Read : List ℕ → Type 0
-Read h = (t : Derivation) × (bytes t ≡ h) × (depthOf t ≤ deepest) × (twice (objectV (readingOf t)) ≡ false)
+Read h = (k : ℕ) → (memberNumber h k ≡ 0) ⊎ (memberNumber h k ≡ 16)
+
+-- some derivation of h has depth at most 8 and no name twice in one object
+abbrev pub DerivedOnce : List ℕ → Type 0
+DerivedOnce h = (t : Derivation) × (bytes t ≡ h) × (depthOf t ≤ deepest) × (twice (objectV (readingOf t)) ≡ false)
 
 -- a refusal of the header is that of every member
 pub refused : (h : List ℕ) (n : ℕ) → checked h ≡ suc n → (k : ℕ) → memberOf h k ≡ Refused (suc n)
@@ -196,6 +210,10 @@ refused h n e k = ap (λ (x : ℕ). unlessRefused x (answerFor (member h k (memb
 
 pub too-long : (h : List ℕ) → longest < length h → (k : ℕ) → memberOf h k ≡ Refused 5
 too-long h l k = refused h 4 (header-first h 5 refl .1 (l, tt)) k
+
+-- a header that no rule refuses
+derived-once : (h : List ℕ) → NoneOf (headerRules h) → DerivedOnce h
+derived-once h n = let t = stable (text-decides deepest h) (n .1 .0) in (t .0, t .1, t .2, is-false _ (λ e. n .1 .1 .0 (t .0, t .1, e)))
 
 module _ (h : List ℕ) (l : length h ≤ longest) where
   short : longest < length h → ⊥
@@ -207,7 +225,7 @@ module _ (h : List ℕ) (l : length h ≤ longest) where
   pub named-twice : (t : Derivation) → bytes t ≡ h → depthOf t ≤ deepest → twice (objectV (readingOf t)) ≡ true → (k : ℕ) → memberOf h k ≡ Refused 8
   named-twice t p q e k = refused h 7 (header-first h 8 refl .1 ((t, p, e), (short, ((λ n. n (t, p, q)), tt)))) k
 
-  checked-fine : Read h → checked h ≡ 0
+  checked-fine : DerivedOnce h → checked h ≡ 0
   checked-fine r = header-none h .1 (short, ((λ n. n (r .0, r .1, r .2)), ((λ u. differs u), tt)))
     where
       differs : NameTwice h → ⊥
@@ -237,10 +255,10 @@ module _ (h : List ℕ) (l : length h ≤ longest) where
     member-found c = ap numberOf member-is ∙ within-all h (membersOf t) k (subst (λ (ms : Members). k < count ms) (sym (plain-of t)) c)
 
   -- for every header within the length
-  pub read-exactly : ((k : ℕ) → (numberOf (memberOf h k) ≡ 0) ⊎ (numberOf (memberOf h k) ≡ 16)) ↔ Read h
+  pub read-exactly : Read h ↔ DerivedOnce h
   unfolding checked headerTests
   read-exactly = (
-    λ f. read-of (header-none h .0 (fine (f 0))),
+    λ f. derived-once h (header-none h .0 (fine (f 0))),
     λ r k. either-number (member h k (membersOf (r .0))) (ap numberOf (member-is (r .0) (r .1) (r .2) (r .3) k) ∙ answer-number (member h k (membersOf (r .0)))),
   )
     where
@@ -248,5 +266,18 @@ module _ (h : List ℕ) (l : length h ≤ longest) where
       fine c = fine-number (ltb longest (length h)) (not (isText deepest h)) (twiceIn (membersIn (read deepest h))) (missing (member h 0 (membersIn (read deepest h))))
           (⊎-elim (λ e. inl (sym (member-number h 0) ∙ e)) (λ e. inr (sym (member-number h 0) ∙ e)) c)
 
-      read-of : NoneOf (headerRules h) → Read h
-      read-of n = let t = stable (text-decides deepest h) (n .1 .0) in (t .0, t .1, t .2, is-false _ (λ e. n .1 .1 .0 (t .0, t .1, e)))
+-- "If it isn't read, every member asked for gets the same one of 5, 7 and 8."
+pub unread : (h : List ℕ) → (Read h → ⊥) → (n : ℕ) × (among n (5 ∷ 7 ∷ 8 ∷ []) ≡ true) × ((k : ℕ) → memberOf h k ≡ Refused n)
+unread h r = go (checked h) refl
+  where
+    is-read : checked h ≡ 0 → Read h
+    is-read e =
+        let n = header-none h .0 e in
+        read-exactly h (ltb-false longest (length h) (test-false (decides-lt longest (length h)) (n .0))) .1 (derived-once h n)
+
+    go : (c : ℕ) → checked h ≡ c → (n : ℕ) × (among n (5 ∷ 7 ∷ 8 ∷ []) ≡ true) × ((k : ℕ) → memberOf h k ≡ Refused n)
+    go zero e = absurd (r (is-read e))
+    go (suc n) e =
+        let z : eqb 0 (suc n) ≡ false = ne-eqb 0 (suc n) (λ x. omega arith) in
+        let i = ap (λ (b : Bool). b || among (suc n) (5 ∷ 7 ∷ 8 ∷ [])) (sym z) ∙ ap (λ (c : ℕ). among c (0 ∷ 5 ∷ 7 ∷ 8 ∷ [])) (sym e) ∙ header-range h in
+        (suc n, i, refused h n e)

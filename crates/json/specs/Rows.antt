@@ -1,6 +1,6 @@
 -- The specification's starred rows on headers, as rows of one theorem.
 use mathlib.Core.Path.{_≡_, refl, sym, _∙_}
-use Prim.Native.Nat.{ℕ}
+use Prim.Native.Nat.{ℕ, suc}
 use Prim.Native.String.{String}
 use Rattle.common.specs.Same.{same}
 use Rattle.common.specs.Ascii.{ascii}
@@ -25,7 +25,7 @@ answers h k = memberOf (ascii h) k
 
 pub rows :
     -- read, one member
-    (answers "{\"alg\":\"HS256\"}" 0 ≡ Text (place 2 5) (place 8 13)) × (answers "{\"alg\":\"HS256\"}" 1 ≡ Refused 16)
+    (answers "{\"alg\":\"HS256\"}" 0 ≡ Text (place 2 5) (place 8 13)) × ((k : ℕ) → answers "{\"alg\":\"HS256\"}" (suc k) ≡ Refused 16)
     -- the same name after escapes are resolved
     × ((k : ℕ) → answers "{\"alg\":\"HS256\",\"al\\u0067\":\"HS256\"}" k ≡ Refused 8)
     -- a comma before the closing brace, a low surrogate alone
@@ -34,5 +34,8 @@ pub rows :
     -- white space between brackets: read, and one reading
     × (answers "{\"alg\":\"HS256\",\"x\":[ ]}" 1 ≡ Array (place 16 17) (place 19 22))
     × ((t u : Derivation) → bytes t ≡ ascii "{\"alg\":\"HS256\",\"x\":[ ]}" → bytes u ≡ ascii "{\"alg\":\"HS256\",\"x\":[ ]}" → readingOf t ≡ readingOf u)
+    -- seven arrays nested as a member's value: read; eight: 7
+    × (answers "{\"x\":[[[[[[[]]]]]]]}" 0 ≡ Array (place 2 3) (place 5 19))
+    × ((k : ℕ) → answers "{\"x\":[[[[[[[[]]]]]]]]}" k ≡ Refused 7)
 unfolding answers
-rows = (refl, refl, λ k. refl, λ k. refl, λ k. refl, refl, λ t u p q. one-reading t u (p ∙ sym q))
+rows = (refl, λ k. refl, λ k. refl, λ k. refl, λ k. refl, refl, λ t u p q. one-reading t u (p ∙ sym q), refl, λ k. refl)

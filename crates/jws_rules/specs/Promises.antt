@@ -13,8 +13,8 @@ use borrow.Author.Tests.{le-leb, lt-leb, le-ltb}
 use Rattle.common.specs.Bytes.{Bytes}
 use Rattle.common.specs.Buffer.{filled}
 use Rattle.common.specs.First.{NoneOf, condition, earlier, numbers, among, first-stands, none-stands, in-range, not-on, _also_}
-use Rattle.json.specs.Answers.{longest, memberOf, numberOf}
-use Rattle.json.specs.Demand3.{member-first, read-exactly}
+use Rattle.json.specs.Answers.{longest}
+use Rattle.json.specs.Demand3.{memberNumber, Read, member-first, read-exactly}
 use Rattle.keytable.specs.Key.{Key}
 use Rattle.keytable.specs.Table.{Wellformed, keys}
 use Rattle.jose_rules.specs.Header.{HeaderChoice, HeaderChooses}
@@ -177,14 +177,6 @@ module _ (h p T : List ℕ) (room : ℕ) (fits : finishedLength h p ≤ room) wh
   sign-longer room′ k = rw (sign-number h p T room, sign-number h p T room′, le-ltb room _ fits, le-ltb room′ _ k)
 
 -- DEMAND 3
-
--- the member reader's number for member k of h
-abbrev pub memberNumber : List ℕ → ℕ → ℕ
-memberNumber h k = numberOf (memberOf h k)
-
--- "A header is "read" when the member reader, whichever member it is asked for, answers 0 or 16."
-abbrev pub Read : List ℕ → Type 0
-Read h = (k : ℕ) → (memberNumber h k ≡ 0) ⊎ (memberNumber h k ≡ 16)
 
 in-order-read : {h : List ℕ} {ks : List Key} {c : HeaderChoice} → length h ≤ longest → HeaderChooses h ks c → Read h
 in-order-read {h} l w = read-exactly h l .1 (w .derivation, w .derives, w .shallow, w .once)

@@ -2,7 +2,7 @@
 use mathlib.Core.Path.{_≡_, refl}
 use mathlib.Core.Bool.{false}
 use mathlib.Core.List.{List, []}
-use Prim.Native.Nat.{ℕ}
+use Prim.Native.Nat.{ℕ, suc}
 use Rattle.common.specs.Same.{same}
 use Rattle.base64url.specs.Base64url.{encode, decode, strict}
 use Rattle.base64url.specs.Examples.{bytes as example, JC4wM, examples}
@@ -31,7 +31,7 @@ pub record Starred : Type 0 where
   pub bad-length : strict (ascii "JC4wM") ≡ false
   pub empty : decode [] ≡ []
   -- read, one member
-  pub one-member : (answers "{\"alg\":\"HS256\"}" 0 ≡ Text (place 2 5) (place 8 13)) × (answers "{\"alg\":\"HS256\"}" 1 ≡ RefusedMember 16)
+  pub one-member : (answers "{\"alg\":\"HS256\"}" 0 ≡ Text (place 2 5) (place 8 13)) × ((k : ℕ) → answers "{\"alg\":\"HS256\"}" (suc k) ≡ RefusedMember 16)
   -- 8, whichever member is asked for
   pub name-twice : (k : ℕ) → answers "{\"alg\":\"HS256\",\"al\\u0067\":\"HS256\"}" k ≡ RefusedMember 8
   -- 7
