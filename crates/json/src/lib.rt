@@ -15,4 +15,5 @@ pub use steps::Entry;
 pub use steps::Item;
 pub use steps::entry_at;
 pub use steps::first_element;
+pub use steps::first_member;
 pub use steps::item_at;

@@ -31,7 +31,7 @@ pub struct Item {
 
 // Where the first member begins of the object that opens at `brace`, if it has one.
 // Rules out the brace's own place, and a member in `{ }`.
-pub(crate) fn first_member(s: &[u8], brace: usize) -> End
+pub fn first_member(s: &[u8], brace: usize) -> End
     requires { ⌜ brace < length (now s) ⌝ }
     ensures { λ r. ⌜ FirstMember (now (s .entry)) brace r ⌝ }
 {
