@@ -1,0 +1,9 @@
+//! Builds, shows and checks key tables; `jws-table --help` says how.
+
+#![forbid(unsafe_code)]
+
+use std::process::ExitCode;
+
+fn main() -> ExitCode {
+    commands::answer::finish(commands::table_command::run(std::env::args_os().skip(1)))
+}

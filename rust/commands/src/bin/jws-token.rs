@@ -1,0 +1,9 @@
+//! Signs and verifies tokens and shows a header's members; `jws-token --help` says how.
+
+#![forbid(unsafe_code)]
+
+use std::process::ExitCode;
+
+fn main() -> ExitCode {
+    commands::answer::finish(commands::token_command::run(std::env::args_os().skip(1)))
+}
