@@ -1,0 +1,2 @@
+-- The number of the member after a given one.
+pub mod Following
