@@ -4,6 +4,7 @@ ghost use Prim.Native.Nat.{_<_};
 ghost use lib.ListN.{length};
 ghost use Rattle.json.specs.Answers.{checked};
 ghost use Rattle.jose.specs.Slots.{isThere, NoneKnown, Taken, Noted, Walked, Located};
+use json::DEEPEST;
 use json::Entry;
 use json::Kind;
 use json::Place;
@@ -13,7 +14,7 @@ use json_string::End;
 use json_string::text_is;
 
 // The depth that is left for the values of the top object's members.
-pub(crate) const INSIDE: usize = 7;
+pub(crate) const INSIDE: usize = DEEPEST - 1;
 
 // What is known of a member: the kind and the place of its value, or that there is no such member.
 pub enum Slot {

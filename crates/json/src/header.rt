@@ -18,7 +18,7 @@ ghost use Rattle.json.specs.Answers.{checked, shownBy, memberOf, Picks};
 // The greatest length of a header, and the greatest depth, in which the top object is 1.
 pub const LONGEST: usize = 1024;
 
-const DEEPEST: usize = 8;
+pub const DEEPEST: usize = 8;
 
 // What a header answers: 0 if it is read; 5 if it is too long; 7 if it isn't derived by the grammar, or nests too deep; 8 if one object has a name twice.
 // Rules out 8 for a text that breaks off after two equal names, and 0 for two names that are equal after their escapes are resolved.

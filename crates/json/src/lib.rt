@@ -4,6 +4,7 @@ mod steps; // steps.rt: members of an object and elements of an array, one by on
 mod names; // names.rt: names that stand twice in one object
 mod header; // header.rt: what a header answers, and its members
 
+pub use header::DEEPEST;
 pub use header::LONGEST;
 pub use header::check;
 pub use header::member;
