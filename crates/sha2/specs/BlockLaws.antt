@@ -1,14 +1,14 @@
 -- The hash value block by block: hashing may go on from a block boundary.
 use mathlib.Core.Path.{_≡_, refl, ap, ap₂, sym, _∙_}
 use mathlib.Core.List.{List, _++_, append-assoc}
-use Prim.Native.Nat.{ℕ, zero, suc, _+_, _-_, _*_, _/_, _≤_, _<_}
-use native.Mathlib.Nat.{add-zero, add-suc, add-mul, suc-mul, mul-div-cancel}
+use Prim.Native.Nat.{ℕ, zero, suc, _+_, _-_, _*_, _/_, _%_, _≤_, _<_}
+use native.Mathlib.Nat.{add-zero, add-suc, add-mul, suc-mul, mul-div-cancel, mul-add-div-right, div-add-mod'}
 use native.Mathlib.Omega.{arith}
 use lib.ListN.{length, take, drop, length-append, length-drop, take-append-drop}
 use lib.Seq.{take-append-le, drop-append-le, drop-append-add, length-take-le}
 use Rattle.sha2.specs.Parameters.{Parameters, H0}
 use Rattle.sha2.specs.Compression.{compressed}
-use Rattle.sha2.specs.Hash.{blockBytes, padding, padded, hashValue, hash, wordBytes}
+use Rattle.sha2.specs.Hash.{blockBytes, padding, padded, hashValue, hash, hashAfter, wordBytes}
 
 module _ (P : Parameters) where
   -- only the blocks' own bytes count
@@ -32,26 +32,38 @@ module _ (P : Parameters) where
       let g : drop ((a + b) * B) (x ++ y) ≡ drop (b * B) y = rw f (drop-append-add x y (b * B)) in
       rw add-suc (ap₂ (compressed P) (joined h x y a b p) (ap (take B) g))
 
-  -- The hash of p and then m: from the hash value s after the a blocks of p, the value v after q blocks of m, and the value f after the b blocks
-  -- that are the rest of m and the padding.
-  pub continued : (p m s v f : List ℕ) (a q b : ℕ) → zero < blockBytes P → length p ≡ a * blockBytes P → q * blockBytes P ≤ length m
-      → length (drop (q * blockBytes P) m ++ padding P (length p + length m)) ≡ b * blockBytes P
-      → s ≡ hashValue P (P .H0) p a → v ≡ hashValue P s m q → f ≡ hashValue P v (drop (q * blockBytes P) m ++ padding P (length p + length m)) b
-      → wordBytes (P .w / 8) f (P .kept) ≡ hash P (p ++ m)
-  unfolding hash padded
-  continued p m s v f a q b h lp lm ll es ev ef =
+  -- the digest in two parts: from the value v after q blocks of m, and the value f after the b blocks that are the rest of m and the padding
+  pub in-parts : (h m v f : List ℕ) (n q b : ℕ) → zero < blockBytes P → q * blockBytes P ≤ length m
+      → length (drop (q * blockBytes P) m ++ padding P (n + length m)) ≡ b * blockBytes P
+      → v ≡ hashValue P h m q → f ≡ hashValue P v (drop (q * blockBytes P) m ++ padding P (n + length m)) b
+      → wordBytes (P .w / 8) f (P .kept) ≡ hashAfter P h n m
+  unfolding hashAfter
+  in-parts h m v f n q b z lm ll ev ef =
       let B = blockBytes P in
       let x = take (q * B) m in
-      let l = drop (q * B) m ++ padding P (length p + length m) in
+      let l = drop (q * B) m ++ padding P (n + length m) in
       let lx : length x ≡ q * B = length-take-le (q * B) m lm in
       let split : m ≡ x ++ drop (q * B) m = sym (take-append-drop (q * B) m) in
-      let ev′ : v ≡ hashValue P s x q = ev ∙ ap (λ (z : List ℕ). hashValue P s z q) split ∙ prefix s x (drop (q * B) m) q (omega arith) in
-      let parts : (p ++ m) ++ padding P (length (p ++ m)) ≡ p ++ (x ++ l) =
-      ap (λ (n : ℕ). (p ++ m) ++ padding P n) (length-append p m) ∙ append-assoc p m _ ∙ ap (λ (z : List ℕ). p ++ (z ++ padding P (length p + length m))) split
-      ∙ ap (λ (z : List ℕ). p ++ z) (append-assoc x (drop (q * B) m) _) in
-      let count : length (p ++ (x ++ l)) / B ≡ a + (q + b) =
-      ap (λ (n : ℕ). n / B) (length-append p (x ++ l) ∙ ap (λ (n : ℕ). length p + n) (length-append x l) ∙ rw (ll, lx, lp, ← add-mul, ← add-mul)) ∙ mul-div-cancel (a + (q + b)) h in
-      ap (λ (z : List ℕ). wordBytes (P .w / 8) z (P .kept))
-      (ef ∙ ap (λ (z : List ℕ). hashValue P z l b) (ev′ ∙ ap (λ (z : List ℕ). hashValue P z x q) es)
-      ∙ sym (joined (hashValue P (P .H0) p a) x l q b lx) ∙ sym (joined (P .H0) p (x ++ l) a (q + b) lp)
-      ∙ ap (hashValue P (P .H0) (p ++ (x ++ l))) (sym count) ∙ ap (λ (z : List ℕ). hashValue P (P .H0) z (length z / B)) (sym parts))
+      let ev′ : v ≡ hashValue P h x q = ev ∙ ap (λ (y : List ℕ). hashValue P h y q) split ∙ prefix h x (drop (q * B) m) q (omega arith) in
+      let parts : m ++ padding P (n + length m) ≡ x ++ l =
+      ap (λ (y : List ℕ). y ++ padding P (n + length m)) split ∙ append-assoc x (drop (q * B) m) _ in
+      let blocks : length (x ++ l) / B ≡ q + b = ap (λ (k : ℕ). k / B) (length-append x l ∙ rw (ll, lx, ← add-mul)) ∙ mul-div-cancel (q + b) z in
+      ap (λ (y : List ℕ). wordBytes (P .w / 8) y (P .kept))
+      (ef ∙ ap (λ (y : List ℕ). hashValue P y l b) ev′ ∙ sym (joined h x l q b lx)
+      ∙ ap (hashValue P h (x ++ l)) (sym blocks) ∙ ap (λ (y : List ℕ). hashValue P h y (length y / B)) (sym parts))
+
+  -- after the whole blocks p it is the hash of p and then m
+  pub after-blocks : (p m : List ℕ) → zero < blockBytes P → length p % blockBytes P ≡ 0
+      → hashAfter P (hashValue P (P .H0) p (length p / blockBytes P)) (length p) m ≡ hash P (p ++ m)
+  unfolding hash padded hashAfter
+  after-blocks p m z h =
+      let B = blockBytes P in
+      let a = length p / B in
+      let l = m ++ padding P (length p + length m) in
+      let lp : length p ≡ a * B = sym (div-add-mod' (length p) B) ∙ rw (h, add-zero) in
+      let parts : (p ++ m) ++ padding P (length (p ++ m)) ≡ p ++ l =
+      ap (λ (n : ℕ). (p ++ m) ++ padding P n) (length-append p m) ∙ append-assoc p m _ in
+      let blocks : length (p ++ l) / B ≡ a + length l / B = ap (λ (k : ℕ). k / B) (length-append p l ∙ ap (λ (k : ℕ). k + length l) lp) ∙ mul-add-div-right z a (length l) in
+      ap (λ (y : List ℕ). wordBytes (P .w / 8) y (P .kept))
+      (sym (joined (P .H0) p l a (length l / B) lp)
+      ∙ ap (hashValue P (P .H0) (p ++ l)) (sym blocks) ∙ ap (λ (y : List ℕ). hashValue P (P .H0) y (length y / B)) (sym parts))

@@ -39,5 +39,10 @@ module _ (P : Parameters) where
   unfoldable pub hash : List ℕ → List ℕ
   hash m = wordBytes (P .w / 8) (hashValue (P .H0) (padded m) (length (padded m) / blockBytes)) (P .kept)
 
+  -- the digest of a message whose first n bytes, whole blocks, have the hash value h, and whose other bytes are m
+  unfoldable pub hashAfter : List ℕ → ℕ → List ℕ → List ℕ
+  hashAfter h n m =
+      wordBytes (P .w / 8) (hashValue h (m ++ padding (n + length m)) (length (m ++ padding (n + length m)) / blockBytes)) (P .kept)
+
 abbrev pub SHA256 : List ℕ → List ℕ
 SHA256 = hash sha-256

@@ -10,11 +10,10 @@ pub use compress::constants;
 use digest::digest;
 use padding::last_blocks;
 ghost use mathlib.Core.Path.{_≡_};
-ghost use Prim.Native.Nat.{ℕ, _/_, _%_, _^_, _<_};
-ghost use mathlib.Core.List.{List, _++_};
+ghost use Prim.Native.Nat.{_/_, _%_, _^_, _<_};
 ghost use lib.ListN.{length};
 ghost use Rattle.sha2.specs.Parameters.{K as RoundConstants, H0, sha-256};
-ghost use Rattle.sha2.specs.Hash.{hashValue, SHA256};
+ghost use Rattle.sha2.specs.Hash.{hashValue, hashAfter, SHA256};
 
 // The initial hash value. Rules out SHA-224's, and two words that changed places.
 pub fn initial() -> [u32; 8]
@@ -48,11 +47,11 @@ pub fn absorb(s: [u32; 8], k: &[u32; 64], m: &[u8]) -> [u32; 8]
     v
 }
 
-// The hash of p and then m, where s is the hash value after p, whole blocks of together `before` bytes.
+// The digest of a message whose first `before` bytes, whole blocks, have the hash value s, and whose other bytes are m.
 // Rules out a length field that counts m alone, and padding that opens a block too early or too late.
 pub fn hash_after(s: [u32; 8], k: &[u32; 64], before: usize, m: &[u8]) -> [u8; 32]
     requires { ⌜ (now k ≡ RoundConstants) × (before % 64 ≡ 0) × (before < 2 ^ 63) ⌝ }
-    ensures { λ r. ⌜ ((p : List ℕ) → length p ≡ before → s ≡ hashValue sha-256 H0 p (before / 64) → r ≡ SHA256 (p ++ now (m .entry))) ⌝ }
+    ensures { λ r. ⌜ r ≡ hashAfter sha-256 s before (now (m .entry)) ⌝ }
 {
     let n = m.len();
     let q = n / 64 * 64;

@@ -59,8 +59,8 @@ digest-requires c κs = search needs
 returns : tie.Need-returns
 returns c =
     let s = c .before .before .before .before .before .before .before in
-    λ p lp es. c .digest .ensures
-    ∙ finished p (s .args .m .now) (s .args .s) _ _ (c .before .before .before .last-blocks .result) (s .args .before) lp (s .pre .1) (c .before .before .before .last-blocks .ensures) es
+    c .digest .ensures
+    ∙ finished (s .args .s) (s .args .m .now) _ _ (c .before .before .before .last-blocks .result) (s .args .before) (s .pre .1) (c .before .before .before .last-blocks .ensures)
     (c .before .before .before .before .before .absorb .ensures) (c .before .absorb2 .ensures)
 
 pub hash-after-spec : {M : Type 1} → statement M
