@@ -80,7 +80,7 @@ const K: [u32; 64] = [
 ];
 
 // The round constants. A caller makes them once and lends them, since a constant array is copied wherever it is named.
-// Rules out one wrong bit in any of them, and two constants that changed places.
+// Rules out one wrong bit, and two constants that changed places.
 pub fn constants() -> [u32; 64]
     ensures { λ r. ⌜ r ≡ RoundConstants ⌝ }
 {

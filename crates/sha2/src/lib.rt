@@ -15,7 +15,7 @@ ghost use lib.ListN.{length};
 ghost use Rattle.sha2.specs.Parameters.{K as RoundConstants, H0, sha-256};
 ghost use Rattle.sha2.specs.Hash.{hashValue, hashAfter, SHA256};
 
-// The initial hash value. Rules out SHA-224's, and two words that changed places.
+// The initial hash value. Rules out SHA-224's first word, and two words that changed places.
 pub fn initial() -> [u32; 8]
     ensures { λ r. ⌜ r ≡ H0 ⌝ }
 {
@@ -31,7 +31,7 @@ pub fn initial() -> [u32; 8]
     ]
 }
 
-// The hash value after all whole blocks of m, from the hash value s. Rules out a last block left out, and a block hashed from s anew.
+// The hash value after all whole blocks of m, from the hash value s. Rules out a last whole block left out, and a block hashed from s anew.
 pub fn absorb(s: [u32; 8], k: &[u32; 64], m: &[u8]) -> [u32; 8]
     requires { ⌜ now k ≡ RoundConstants ⌝ }
     ensures { λ r. ⌜ r ≡ hashValue sha-256 s (now (m .entry)) (length (now (m .entry)) / 64) ⌝ }
@@ -48,7 +48,7 @@ pub fn absorb(s: [u32; 8], k: &[u32; 64], m: &[u8]) -> [u32; 8]
 }
 
 // The digest of a message whose first `before` bytes, whole blocks, have the hash value s, and whose other bytes are m.
-// Rules out a length field that counts m alone, and padding that opens a block too early or too late.
+// Rules out a length field that counts m alone, and padding that opens a block where the last has room.
 pub fn hash_after(s: [u32; 8], k: &[u32; 64], before: usize, m: &[u8]) -> [u8; 32]
     requires { ⌜ (now k ≡ RoundConstants) × (before % 64 ≡ 0) × (before < 2 ^ 63) ⌝ }
     ensures { λ r. ⌜ r ≡ hashAfter sha-256 s before (now (m .entry)) ⌝ }
@@ -63,7 +63,7 @@ pub fn hash_after(s: [u32; 8], k: &[u32; 64], before: usize, m: &[u8]) -> [u8; 3
 }
 
 // The SHA-256 hash of m, for every length that a slice can have.
-// Rules out a digest with its bytes in another order, and the hash of m's first bytes alone.
+// Rules out a word's second byte in the place of its first, and the hash of m without its whole blocks.
 pub fn sha256(m: &[u8]) -> [u8; 32]
     ensures { λ r. ⌜ r ≡ SHA256 (now (m .entry)) ⌝ }
 {
