@@ -1,22 +1,17 @@
 -- The words of a schedule, as the code makes and reads them.
 use mathlib.Core.Path.{_≡_, refl, ap, sym, _∙_}
 use mathlib.Core.Logic.{⊎-elim}
-use mathlib.Core.List.{List, [], _∷_, _++_}
-use Prim.Native.Nat.{ℕ, zero, suc, _+_, _-_, _*_, _≤_, _<_}
-use native.Mathlib.Nat.{add-zero, zero-add, not-suc-le-zero, eq-or-lt-of-le, le-of-suc-le-suc}
+use mathlib.Core.List.{List, [], _∷_}
+use Prim.Native.Nat.{ℕ, zero, suc, _+_, _-_, _≤_, _<_}
+use native.Mathlib.Nat.{not-suc-le-zero, eq-or-lt-of-le, le-of-suc-le-suc}
 use native.Mathlib.Numerals.{add-one}
 use native.Mathlib.Omega.{arith}
 use borrow.Author.Tests.{lt-ltb, le-ltb}
 use lib.ListN.{length, getD, take, set, length-append, List·getD-append}
 use lib.Seq.{getD-take, getD-at}
-use Rattle.common.specs.BigEndian.{number4}
-use Rattle.sha2.specs.Parameters.{Parameters, sha-256}
+use Rattle.sha2.specs.Parameters.{Parameters}
 use Rattle.sha2.specs.Compression.{M, laterWord, nextWord, schedule}
 use Rattle.sha2.proofs.ListLaws.{stored}
-
--- a word of four bytes
-pub four-bytes : (b : List ℕ) (t : ℕ) → number4 b (t * 4) ≡ M sha-256 b t
-four-bytes b t = rw (zero-add, add-zero)
 
 module _ (P : Parameters) (b : List ℕ) where
   pub block-word : (w : List ℕ) (t : ℕ) → t < 16 → nextWord P b w t ≡ M P b t

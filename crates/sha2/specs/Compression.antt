@@ -4,13 +4,9 @@ use mathlib.Core.Bool.{cond}
 use mathlib.Core.List.{List, [], _∷_, _++_}
 use lib.Dec.{ltb}
 use lib.ListN.{getD}
+use Rattle.common.specs.BigEndian.{numberAt}
 use Rattle.sha2.specs.Words.{Ch, Maj}
 use Rattle.sha2.specs.Parameters.{Parameters}
-
--- the number in the n bytes from place i on, the highest first
-abbrev pub numberAt : ℕ → List ℕ → ℕ → ℕ
-numberAt zero b i = 0
-numberAt (suc n) b i = numberAt n b i * 256 + getD b (i + n) 0
 
 module _ (P : Parameters) where
   -- section 3.2, item 2: addition modulo 2 ^ w

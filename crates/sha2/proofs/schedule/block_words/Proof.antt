@@ -5,7 +5,7 @@ use native.Mathlib.Omega.{arith}
 use lib.ListN.{length, take, length-set}
 use Rattle.sha2.specs.Parameters.{sha-256}
 use Rattle.sha2.specs.Compression.{schedule}
-use Rattle.sha2.proofs.ScheduleLaws.{four-bytes, block-word, one-word}
+use Rattle.sha2.proofs.ScheduleLaws.{block-word, one-word}
 use Rattle.sha2.proofs.schedule.block_words.Statement.{statement}
 use Rattle.sha2.proofs.schedule.block_words.Tie as tie
 
@@ -44,7 +44,7 @@ loop-again c =
       omega arith,
       simp length-set (l .inv .1),
       one-word sha-256 b (l .w) (l .t) (l .t + 1) (c .number4-at .result) refl (omega arith) (l .inv .2)
-          (c .number4-at .ensures ∙ four-bytes b (l .t) ∙ sym (block-word sha-256 b (schedule sha-256 b (l .t)) (l .t) (omega arith))),
+          (c .number4-at .ensures ∙ sym (block-word sha-256 b (schedule sha-256 b (l .t)) (l .t) (omega arith))),
     )
 
 returns : tie.Need-returns Inv-loop μ-loop
