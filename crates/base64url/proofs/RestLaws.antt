@@ -7,6 +7,7 @@ use native.Mathlib.Omega.{arith}
 use lib.Dec.{eqb}
 use lib.ListN.{length, take, set}
 use borrow.Author.Tests.{eq-eqb, ne-eqb, eqb-true, eqb-false}
+use Rattle.common.specs.Ranges.{within}
 use Rattle.base64url.specs.Alphabet.{value, inAlphabet}
 use Rattle.base64url.specs.Base64url.{encode, decode, alphabetic, unusedBits, strict, byte1, byte2, byte3}
 use Rattle.base64url.specs.Outcome.{laid}
@@ -26,7 +27,7 @@ when true n m f = rw (f refl)
 when false n m f = refl
 
 value-A : value 65 ≡ 0
-unfolding value
+unfolding within value
 value-A = refl
 
 -- filled up with A, two characters have their unused bits as the second byte, and three as the third

@@ -1,17 +1,15 @@
 -- The alphabet of base64url (RFC 4648 section 5, table 2). Characters are numbers.
-use mathlib.Core.Bool.{Bool, cond, _&&_}
+use mathlib.Core.Bool.{Bool, cond}
 use Prim.Native.Nat.{ℕ, _+_, _-_}
-use lib.Dec.{ltb, leb, eqb}
-
-abbrev pub between : ℕ → ℕ → ℕ → Bool
-between a b c = leb a c && leb c b
+use lib.Dec.{ltb, eqb}
+use Rattle.common.specs.Ranges.{within}
 
 -- the value of a character, 0 to 63: A to Z, a to z, 0 to 9, - and _; 64 for any other, as = + / and white space
 unfoldable pub value : ℕ → ℕ
 value c =
-    cond (between 65 90 c) (c - 65)
-    (cond (between 97 122 c) (c - 71)
-    (cond (between 48 57 c) (c + 4)
+    cond (within 65 90 c) (c - 65)
+    (cond (within 97 122 c) (c - 71)
+    (cond (within 48 57 c) (c + 4)
     (cond (eqb c 45) 62
     (cond (eqb c 95) 63 64))))
 

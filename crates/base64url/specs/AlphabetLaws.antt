@@ -4,13 +4,14 @@ use mathlib.Core.Bool.{Bool, true, false, cond}
 use Prim.Native.Nat.{ℕ, _<_, _≤_}
 use native.Mathlib.Omega.{arith}
 use lib.Dec.{ltb}
-use borrow.Author.Tests.{lt-ltb, ltb-true, ltb-false, le-leb, lt-leb, ne-eqb}
+use borrow.Author.Tests.{lt-ltb, ltb-true, ltb-false, ne-eqb}
+use Rattle.common.specs.Ranges.{within, above}
 use Rattle.base64url.specs.Alphabet.{value, character, inAlphabet}
 use Rattle.base64url.specs.Tables.{entries, agree}
 
 -- for all values at once, by one computed table
 pub value-character : (v : ℕ) → v < 64 → value (character v) ≡ v
-unfolding entries value character
+unfolding entries within value character
 value-character v h = agree (λ v. value (character v)) (λ v. v) 64 v refl h
 
 -- past the last letter there are no characters
@@ -18,12 +19,9 @@ pub value-past : (c : ℕ) → 123 ≤ c → value c ≡ 64
 unfolding value
 value-past c h =
     simp (
-      le-leb 65 c (omega arith),
-      le-leb 97 c (omega arith),
-      le-leb 48 c (omega arith),
-      lt-leb c 90 (omega arith),
-      lt-leb c 122 (omega arith),
-      lt-leb c 57 (omega arith),
+      above 65 90 c (omega arith),
+      above 97 122 c (omega arith),
+      above 48 57 c (omega arith),
       ne-eqb c 45 (λ e. omega arith),
       ne-eqb c 95 (λ e. omega arith),
     )
@@ -41,7 +39,7 @@ returned : ℕ → ℕ
 returned c = cond (inAlphabet c) (character (value c)) c
 
 pub character-value : (c : ℕ) → inAlphabet c ≡ true → character (value c) ≡ c
-unfolding returned entries value character
+unfolding returned entries within value character
 character-value c e =
     let a : returned c ≡ c = agree returned (λ c. c) 123 c refl (character-below c (ltb-true (value c) 64 e)) in
     rw e at a

@@ -4,6 +4,7 @@ use mathlib.Core.Bool.{true, false}
 use mathlib.Core.List.{List, [], _∷_}
 use mathlib.Core.Option.{none, some}
 use Prim.Native.Nat.{ℕ}
+use Rattle.common.specs.Ranges.{within}
 use Rattle.base64url.specs.Alphabet.{value, character}
 use Rattle.base64url.specs.Base64url.{encode, decode, alphabetic, unusedBits, strict}
 use Rattle.base64url.specs.Fault.{firstOutside, fault}
@@ -33,7 +34,7 @@ pub record Examples : Type 0 where
   pub empty : (strict [] ≡ true) × (decode [] ≡ []) × (fault [] ≡ none)
 
 pub examples : Examples
-unfolding encode decode character value strict alphabetic unusedBits firstOutside fault
+unfolding encode decode character within value strict alphabetic unusedBits firstOutside fault
 examples =
     record {
       encodes = refl;

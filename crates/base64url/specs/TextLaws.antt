@@ -9,6 +9,7 @@ use lib.Dec.{eqb}
 use lib.ListN.{length, getD}
 use borrow.Author.Tests.{ltb-true, ne-eqb}
 use Rattle.common.specs.Bytes.{Bytes, none, more}
+use Rattle.common.specs.Ranges.{within}
 use Rattle.base64url.specs.Alphabet.{value, inAlphabet}
 use Rattle.base64url.specs.AlphabetLaws.{character-below}
 use Rattle.base64url.specs.Base64url.{encode, alphabetic, unusedBits, badLength, strict}
@@ -42,7 +43,7 @@ lacks c [] = true
 lacks c (x ∷ s) = not (eqb x c) && lacks c s
 
 period : inAlphabet 46 ≡ false
-unfolding value
+unfolding within value
 period = refl
 
 differs : (c : ℕ) → inAlphabet c ≡ true → c ≡ 46 → ⊥

@@ -1,4 +1,5 @@
 pub mod Bytes
+pub mod Ranges
 pub mod BigEndian
 pub mod LittleEndian
 pub mod Buffer

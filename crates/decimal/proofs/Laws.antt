@@ -13,6 +13,7 @@ use mir.Syntax.{w64}
 use mir.Val.{toZ, SFits}
 use mir.ValLaws.{toZ-pos}
 use borrow.Author.Tests.{le-leb, lt-leb, leb-true, eq-eqb, ne-eqb}
+use Rattle.common.specs.Ranges.{isDigit, within-is, below as low, above as high}
 use Rattle.decimal.specs.declared.Magnitude.{Magnitude}
 use Rattle.decimal.specs.declared.Magnitude.the-variants.{Of, Beyond}
 use Rattle.decimal.specs.declared.Integer.{Integer}
@@ -58,8 +59,8 @@ and-no false = refl
 -- the character at i is a digit d, ..
 module _ (most m : ℕ) (s : List ℕ) (i : ℕ) (h : i < length s) where
   pub next : {d : ℕ} → d ≡ getD s i 0 - 48 → 48 ≤ getD s i 0 → getD s i 0 ≤ 57 → reach most m (drop i s) ≡ reach most (10 * m + d) (drop (i + 1) s)
-  unfolding reach after allDigits
-  next e l g = rw (drop-cons s i 0 h, le-leb 48 (getD s i 0) l, le-leb (getD s i 0) 57 g, add-one, e)
+  unfolding reach after allDigits isDigit
+  next e l g = rw (drop-cons s i 0 h, within-is 48 57 (getD s i 0) l g, add-one, e)
 
   -- .. and makes the number too great, ..
   pub over : {d : ℕ} → d ≡ getD s i 0 - 48 → (most - d) / 10 < m → reach most m (drop i s) ≡ Beyond
@@ -70,12 +71,12 @@ module _ (most m : ℕ) (s : List ℕ) (i : ℕ) (h : i < length s) where
 
   -- .. or is none
   pub below : getD s i 0 < 48 → reach most m (drop i s) ≡ Beyond
-  unfolding reach after allDigits
-  below k = rw (drop-cons s i 0 h, lt-leb 48 (getD s i 0) k)
+  unfolding reach after allDigits isDigit
+  below k = rw (drop-cons s i 0 h, low 48 57 (getD s i 0) k)
 
   pub above : 57 < getD s i 0 → reach most m (drop i s) ≡ Beyond
-  unfolding reach after allDigits
-  above k = rw (drop-cons s i 0 h, lt-leb (getD s i 0) 57 k, and-no)
+  unfolding reach after allDigits isDigit
+  above k = rw (drop-cons s i 0 h, high 48 57 (getD s i 0) k)
 
 -- -1 - (m - 1)
 pub negated : (m : ℕ) → (m ≡ 0 → ⊥) → m ≤ 9223372036854775808 → negsuc 0 -ℤ toZ w64 (m - 1) ≡ negℤ (pos m)

@@ -5,6 +5,7 @@ use Prim.Native.Nat.{ℕ}
 use Prim.Native.String.{String}
 use lib.IntN.{ℤ, pos, negℤ}
 use Rattle.common.specs.Ascii.{ascii}
+use Rattle.common.specs.Ranges.{within, isDigit}
 use Rattle.decimal.specs.declared.Integer.the-variants.{Is, No}
 use Rattle.decimal.specs.Integer.{integerOf, allDigits, after}
 
@@ -32,5 +33,5 @@ pub examples :
     × Refused "-"
     × Refused "--1"
     × Refused ""
-unfolding ascii integerOf allDigits after
+unfolding ascii within isDigit integerOf allDigits after
 examples = (refl, refl, refl, refl, refl, refl, refl, refl, refl, refl, refl, refl, refl, refl, refl, refl, refl)

@@ -2,15 +2,12 @@
 use mathlib.Core.Bool.{Bool, true, false, cond, _&&_}
 use mathlib.Core.List.{List, [], _∷_}
 use Prim.Native.Nat.{ℕ, _+_, _*_, _-_}
-use lib.Dec.{leb, eqb}
+use lib.Dec.{eqb}
 use lib.IntN.{ℤ, pos, negℤ}
 use lib.Signed.{leZ}
+use Rattle.common.specs.Ranges.{isDigit}
 use Rattle.decimal.specs.declared.Integer.{Integer}
 use Rattle.decimal.specs.declared.Integer.the-variants.{Is, No}
-
--- "0" to "9"
-abbrev pub isDigit : ℕ → Bool
-isDigit c = leb 48 c && leb c 57
 
 unfoldable pub allDigits : List ℕ → Bool
 allDigits [] = true

@@ -5,6 +5,7 @@ use mathlib.Core.List.{List, [], _∷_}
 use Prim.Native.Nat.{ℕ}
 use Prim.Native.String.{String}
 use Rattle.common.specs.First.{first}
+use Rattle.common.specs.Ranges.{within, isDigit}
 use Rattle.json_grammar.specs.Value.{Value, Values, Members, stringV, numberV, trueV, arrayV, vnil, vcons, mnil, mcons, among, repeated}
 use Rattle.json_string.specs.Utf8.{utf8, octets}
 use Rattle.decimal.specs.Integer.{integerOf, allDigits, after}
@@ -78,7 +79,7 @@ pub examples :
     × Answers ("alg" ∶ text "HS256" then mnil) (hs28 ∷ []) 14
     × Answers ("alg" ∶ text "HS256" then "crit" ∶ array ("fmt" ∷ []) then "fmt" ∶ number "-0" then mnil) (hs1 ∷ []) 14
     × Answers ("alg" ∶ text "HS256" then "crit" ∶ array ("fmt" ∷ []) then "fmt" ∶ number "9" then mnil) (hs1 ∷ []) 14
-unfolding ascii alg kid typ cty crit fmt HS256 among repeated utf8 octets integerOf allDigits after same find only allowsHS256 allowsFormat
+unfolding ascii alg kid typ cty crit fmt HS256 among repeated utf8 octets within isDigit integerOf allDigits after same find only allowsHS256 allowsFormat
     stringsIn lookup missingOrWrong anyOf listed criticalBroken chosen format lacking choice
 examples = (
   (refl, refl),

@@ -1,11 +1,12 @@
 -- Laws of the classes of bytes: what a test says of a byte, and case by case.
 use mathlib.Core.Path.{_≡_, refl, sym, subst}
-use mathlib.Core.Bool.{Bool, true, false, cond, _&&_, _||_, and-false, false≢true}
-use Prim.Native.Nat.{ℕ, _≤_, _<_}
+use mathlib.Core.Bool.{Bool, true, false, cond, _&&_, _||_, false≢true}
+use Prim.Native.Nat.{ℕ, _≤_}
 use native.Mathlib.Omega.{arith}
 use lib.Dec.{leb, eqb}
-use borrow.Author.Tests.{leb-true, le-leb, lt-leb, eqb-true}
+use borrow.Author.Tests.{leb-true, eqb-true}
 use Rattle.json_grammar.specs.Bytes.{within, isWs, isE, isSign}
+pub use Rattle.common.specs.Ranges.{within-is, from-low, below, above}
 
 -- TESTS
 
@@ -37,22 +38,6 @@ within-true lo hi b h = let k = and-both (leb lo b) (leb b hi) h in (leb-true lo
 
 pub within-high : (lo hi m b : ℕ) → hi ≤ m → within lo hi b ≡ true → b ≤ m
 within-high lo hi m b h e = omega (arith, within-true lo hi b e)
-
-pub within-is : (lo hi b : ℕ) → lo ≤ b → b ≤ hi → within lo hi b ≡ true
-unfolding within
-within-is lo hi b h k = rw (le-leb lo b h, le-leb b hi k)
-
-pub from-low : (lo hi b : ℕ) → lo ≤ b → leb b hi ≡ within lo hi b
-unfolding within
-from-low lo hi b h = rw (le-leb lo b h)
-
-pub below : (lo hi b : ℕ) → b < lo → within lo hi b ≡ false
-unfolding within
-below lo hi b h = rw (lt-leb lo b h)
-
-pub above : (lo hi b : ℕ) → hi < b → within lo hi b ≡ false
-unfolding within
-above lo hi b h = rw (lt-leb b hi h) (and-false (leb lo b))
 
 -- CLASSES OF A FEW BYTES
 

@@ -1,20 +1,15 @@
 -- Classes of bytes and of code points, as tests, and the numbers that forms of several bytes stand for.
 use mathlib.Core.Bool.{Bool, cond, _&&_, _||_}
 use Prim.Native.Nat.{ℕ, _+_, _-_, _*_}
-use lib.Dec.{leb, eqb}
-
--- lo ≤ b ≤ hi, in the documents' words %xlo-hi
-unfoldable pub within : ℕ → ℕ → ℕ → Bool
-within lo hi b = leb lo b && leb b hi
+use lib.Dec.{eqb}
+-- within: %xlo-hi; isDigit: DIGIT = %x30-39
+unfoldable pub use Rattle.common.specs.Ranges.{within, isDigit}
 
 -- RFC 8259 section 2: space, horizontal tab, line feed, carriage return
 unfoldable pub isWs : ℕ → Bool
 isWs b = eqb b 0x20 || eqb b 0x09 || eqb b 0x0A || eqb b 0x0D
 
--- RFC 8259 section 6: DIGIT = %x30-39, digit1-9 = %x31-39, e = %x65 / %x45, and minus / plus
-unfoldable pub isDigit : ℕ → Bool
-isDigit b = within 0x30 0x39 b
-
+-- RFC 8259 section 6: digit1-9 = %x31-39, e = %x65 / %x45, and minus / plus
 unfoldable pub isDigit19 : ℕ → Bool
 isDigit19 b = within 0x31 0x39 b
 

@@ -181,7 +181,7 @@ pub record Inhabited : Type 0 where
 
 -- its segments and their bytes are computed
 without-signature : verifyAnswer (encode (header 0) dot encode [] dot []) table 15 0 ≡ 15
-unfolding ascii encode character periods front back decode value strict alphabetic unusedBits
+unfolding ascii encode character periods front back decode within value strict alphabetic unusedBits
 without-signature =
     let t = encode (header 0) dot encode [] dot [] in
     let n = before-6 t table 15 0 (before-5 t table 15 0 (omega arith) table-good refl refl refl refl) (omega arith) in

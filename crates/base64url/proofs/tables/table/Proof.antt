@@ -1,12 +1,13 @@
 -- The constant is the list that the definition computes.
 use mathlib.Core.Path.{refl}
+use Rattle.common.specs.Ranges.{within}
 use Rattle.base64url.specs.Alphabet.{value}
 use Rattle.base64url.specs.Tables.{entries, values}
 use Rattle.base64url.proofs.tables.table.Statement.{statement}
 use Rattle.base64url.proofs.tables.table.Tie as tie
 
 returns : tie.Need-returns
-unfolding values entries value
+unfolding values entries within value
 returns c = refl
 
 pub table-spec : {M : Type 1} → statement M
