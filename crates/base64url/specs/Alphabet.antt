@@ -4,7 +4,15 @@ use Prim.Native.Nat.{ℕ, _+_, _-_}
 use lib.Dec.{ltb, eqb}
 use Rattle.common.specs.Ranges.{within}
 
--- the value of a character, 0 to 63: A to Z, a to z, 0 to 9, - and _; 64 for any other, as = + / and white space
+-- the character of a value, 0 to 63: A to Z, a to z, 0 to 9, - and _
+unfoldable pub character : ℕ → ℕ
+character v =
+    cond (ltb v 26) (v + 65)
+    (cond (ltb v 52) (v + 71)
+    (cond (ltb v 62) (v - 4)
+    (cond (eqb v 62) 45 95)))
+
+-- the value of a character; 64 for any other, as = + / and white space
 unfoldable pub value : ℕ → ℕ
 value c =
     cond (within 65 90 c) (c - 65)
@@ -15,11 +23,3 @@ value c =
 
 abbrev pub inAlphabet : ℕ → Bool
 inAlphabet c = ltb (value c) 64
-
--- the character of a value
-unfoldable pub character : ℕ → ℕ
-character v =
-    cond (ltb v 26) (v + 65)
-    (cond (ltb v 52) (v + 71)
-    (cond (ltb v 62) (v - 4)
-    (cond (eqb v 62) 45 95)))
