@@ -36,7 +36,7 @@ module _ (P : Parameters) where
   pub in-parts : (h m v f : List ℕ) (n q b : ℕ) → zero < blockBytes P → q * blockBytes P ≤ length m
       → length (drop (q * blockBytes P) m ++ padding P (n + length m)) ≡ b * blockBytes P
       → v ≡ hashValue P h m q → f ≡ hashValue P v (drop (q * blockBytes P) m ++ padding P (n + length m)) b
-      → wordBytes (P .w / 8) f (P .kept) ≡ hashAfter P h n m
+      → wordBytes (P .w / 8) f (P .digestWords) ≡ hashAfter P h n m
   unfolding hashAfter
   in-parts h m v f n q b z lm ll ev ef =
       let B = blockBytes P in
@@ -48,7 +48,7 @@ module _ (P : Parameters) where
       let parts : m ++ padding P (n + length m) ≡ x ++ l =
       ap (λ (y : List ℕ). y ++ padding P (n + length m)) split ∙ append-assoc x (drop (q * B) m) _ in
       let blocks : length (x ++ l) / B ≡ q + b = ap (λ (k : ℕ). k / B) (length-append x l ∙ rw (ll, lx, ← add-mul)) ∙ mul-div-cancel (q + b) z in
-      ap (λ (y : List ℕ). wordBytes (P .w / 8) y (P .kept))
+      ap (λ (y : List ℕ). wordBytes (P .w / 8) y (P .digestWords))
       (ef ∙ ap (λ (y : List ℕ). hashValue P y l b) ev′ ∙ sym (joined h x l q b lx)
       ∙ ap (hashValue P h (x ++ l)) (sym blocks) ∙ ap (λ (y : List ℕ). hashValue P h y (length y / B)) (sym parts))
 
@@ -64,6 +64,6 @@ module _ (P : Parameters) where
       let parts : (p ++ m) ++ padding P (length (p ++ m)) ≡ p ++ l =
       ap (λ (n : ℕ). (p ++ m) ++ padding P n) (length-append p m) ∙ append-assoc p m _ in
       let blocks : length (p ++ l) / B ≡ a + length l / B = ap (λ (k : ℕ). k / B) (length-append p l ∙ ap (λ (k : ℕ). k + length l) lp) ∙ mul-add-div-right z a (length l) in
-      ap (λ (y : List ℕ). wordBytes (P .w / 8) y (P .kept))
+      ap (λ (y : List ℕ). wordBytes (P .w / 8) y (P .digestWords))
       (sym (joined (P .H0) p l a (length l / B) lp)
       ∙ ap (hashValue P (P .H0) (p ++ l)) (sym blocks) ∙ ap (λ (y : List ℕ). hashValue P (P .H0) y (length y / B)) (sym parts))

@@ -54,4 +54,4 @@ module _ (P : Parameters) where
 
   -- the hash value after the block
   unfoldable pub compressed : List ℕ → List ℕ → List ℕ
-  compressed h block = sums (rounds h (schedule block (P .count)) (P .count)) h 8
+  compressed h block = sums (rounds h (schedule block (P .roundCount)) (P .roundCount)) h 8

@@ -1,4 +1,4 @@
--- Worked examples of SHA-256, computed from the definition: "abc" (FIPS 180-4's example of one block) and the empty message.
+-- Worked examples of SHA-256, computed from the definition: "abc" (the one-block example that NIST publishes beside FIPS 180-4) and the empty message.
 use mathlib.Core.Path.{_≡_, refl}
 use mathlib.Core.List.{List, [], _∷_}
 use Rattle.common.specs.BigEndian.{bigEndian}

@@ -37,12 +37,12 @@ module _ (P : Parameters) where
 
   -- the digest
   unfoldable pub hash : List ℕ → List ℕ
-  hash m = wordBytes (P .w / 8) (hashValue (P .H0) (padded m) (length (padded m) / blockBytes)) (P .kept)
+  hash m = wordBytes (P .w / 8) (hashValue (P .H0) (padded m) (length (padded m) / blockBytes)) (P .digestWords)
 
   -- the digest of a message whose first n bytes, whole blocks, have the hash value h, and whose other bytes are m
   unfoldable pub hashAfter : List ℕ → ℕ → List ℕ → List ℕ
   hashAfter h n m =
-      wordBytes (P .w / 8) (hashValue h (m ++ padding (n + length m)) (length (m ++ padding (n + length m)) / blockBytes)) (P .kept)
+      wordBytes (P .w / 8) (hashValue h (m ++ padding (n + length m)) (length (m ++ padding (n + length m)) / blockBytes)) (P .digestWords)
 
 abbrev pub SHA256 : List ℕ → List ℕ
 SHA256 = hash sha-256

@@ -7,7 +7,7 @@ pub record Parameters : Type 0 where
   -- the bits of a word
   pub w : ℕ
   -- the rounds of a compression, and the words of a schedule
-  pub count : ℕ
+  pub roundCount : ℕ
   pub Sigma0 : ℕ → ℕ
   pub Sigma1 : ℕ → ℕ
   pub sigma0 : ℕ → ℕ
@@ -17,7 +17,7 @@ pub record Parameters : Type 0 where
   -- the initial hash value
   pub H0 : List ℕ
   -- how many words of the last hash value make the digest
-  pub kept : ℕ
+  pub digestWords : ℕ
 
 -- section 4.1.2: the functions of SHA-256
 abbrev pub Sigma0 : ℕ → ℕ
@@ -49,4 +49,4 @@ unfoldable pub H0 : List ℕ
 H0 = 0x6a09e667 ∷ 0xbb67ae85 ∷ 0x3c6ef372 ∷ 0xa54ff53a ∷ 0x510e527f ∷ 0x9b05688c ∷ 0x1f83d9ab ∷ 0x5be0cd19 ∷ []
 
 abbrev pub sha-256 : Parameters
-sha-256 = record { w = 32; count = 64; Sigma0 = Sigma0; Sigma1 = Sigma1; sigma0 = sigma0; sigma1 = sigma1; K = K; H0 = H0; kept = 8 }
+sha-256 = record { w = 32; roundCount = 64; Sigma0 = Sigma0; Sigma1 = Sigma1; sigma0 = sigma0; sigma1 = sigma1; K = K; H0 = H0; digestWords = 8 }
