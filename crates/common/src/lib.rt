@@ -6,7 +6,7 @@ ghost use lib.Seq.{paste};
 ghost use Rattle.common.specs.BigEndian.{number2, number4};
 ghost use Rattle.common.specs.LittleEndian.{word4, word8};
 
-// Sets every byte to 0. Rules out a byte left behind at either end.
+// Sets every byte to 0. Rules out the first byte left as it was, and another byte than 0.
 pub fn zero(b: &mut [u8])
     ensures { λ _. ⌜ now (b .exit) ≡ replicate (length (now (b .entry))) 0 ⌝ }
 {
@@ -17,7 +17,7 @@ pub fn zero(b: &mut [u8])
     }
 }
 
-// Copies src into dst from at on. Rules out a copy that starts or ends a byte off.
+// Copies src into dst from at on. Rules out one byte copied over and over, and the first byte left out.
 pub fn copy_at(dst: &mut [u8], at: usize, src: &[u8])
     requires { ⌜ at + length (now src) ≤ length (now dst) ⌝ }
     ensures { λ _. ⌜ now (dst .exit) ≡ paste (now (dst .entry)) at (now (src .entry)) (length (now (src .entry))) ⌝ }
@@ -29,14 +29,14 @@ pub fn copy_at(dst: &mut [u8], at: usize, src: &[u8])
     }
 }
 
-// A byte as a wider number.
+// A byte as a wider number. Rules out one number for every byte, and half the byte.
 pub fn wide(x: u8) -> u32
     ensures { λ r. ⌜ (r ≡ x) × (r < 256) ⌝ }
 {
     x as u32
 }
 
-// The number in the two bytes at i, the highest first.
+// The number in the two bytes at i, the highest first. Rules out the high byte counted half, and the low byte read twice.
 pub fn number2_at(b: &[u8], i: usize) -> u32
     requires { ⌜ i + 1 < length (now b) ⌝ }
     ensures { λ r. ⌜ (r ≡ number2 (now (b .entry)) i) × (r < 65536) ⌝ }
@@ -44,7 +44,7 @@ pub fn number2_at(b: &[u8], i: usize) -> u32
     wide(b[i]) * 256 + wide(b[i + 1])
 }
 
-// The number in the four bytes at i, the highest first.
+// The number in the four bytes at i, the highest first. Rules out the two high bytes counted half, and the last byte read twice.
 pub fn number4_at(b: &[u8], i: usize) -> u32
     requires { ⌜ i + 3 < length (now b) ⌝ }
     ensures { λ r. ⌜ r ≡ number4 (now (b .entry)) i ⌝ }
@@ -60,8 +60,8 @@ fn word4_at(b: &[u8], i: usize) -> u32
     ((wide(b[i + 3]) * 256 + wide(b[i + 2])) * 256 + wide(b[i + 1])) * 256 + wide(b[i])
 }
 
-// The word in the eight bytes at i, the lowest first: one load, to compare eight bytes at once. Rules out four bytes read twice, and
-// four bytes laid over the others.
+// The word in the eight bytes at i, the lowest first: one load, to compare eight bytes at once.
+// Rules out the low four bytes read twice, and the high four laid over the low ones.
 pub fn word8_at(b: &[u8], i: usize) -> u64
     requires { ⌜ i + 7 < length (now b) ⌝ }
     ensures { λ r. ⌜ r ≡ word8 (now (b .entry)) i ⌝ }
