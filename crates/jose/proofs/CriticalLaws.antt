@@ -11,7 +11,7 @@ use Rattle.json_grammar.specs.Value.{Value, Members, LItems, inil, icons, plain
 use Rattle.json_grammar.specs.Places.{arrayK}
 use Rattle.json_string.specs.declared.End.{End}
 use Rattle.json_string.specs.declared.End.the-variants.{At, Bad}
-use Rattle.json_string.specs.Strings.{TextIs}
+use Rattle.json_string.specs.Strings.{textIs}
 use Rattle.json.specs.declared.places.Kind.{Kind}
 use Rattle.json.specs.declared.places.Place.{Place as Span}
 use Rattle.json.specs.declared.steps.Item.{Item}
@@ -60,7 +60,7 @@ module _ {h n : List ℕ} {x : Span} (a : Strings h n x) where
   lists-empty f = sym (ap (given formatAlone) (a .is) ∙ ap (λ (vs : LItems). given formatAlone (stringsIn (plainItems vs))) (f .is inside (a .items) (a .at)))
 
   module _ {p : ℕ} (f : FirstElement h (x .start) (At p)) {i : Item} (it : ItemAt h p (inside - 1) i) where
-    pub first-string : Element h i (a .items)
+    first-string : Element h i (a .items)
     first-string = element-of it (a .items) (f .is inside (a .items) (a .at)) (a .fine)
 
     abbrev text : List ℕ
@@ -73,9 +73,9 @@ module _ {h n : List ℕ} {x : Span} (a : Strings h n x) where
     lists-is = ap (given formatAlone) (a .is ∙ first-string .is)
 
     -- another first name
-    pub lists-other : (t : Bool) → TextIs h (i .value .start) fmt t → t ≡ false → false ≡ given formatAlone (said strings n (reading h))
+    pub lists-other : (t : Bool) → t ≡ textIs h (i .value .start) fmt → t ≡ false → false ≡ given formatAlone (said strings n (reading h))
     unfolding formatAlone isAscii ascii fmt
-    lists-other t w f = sym (lists-is ∙ go others (sym (text-word fmt refl h (i .value .start) t w text (first-string .at)) ∙ f))
+    lists-other t w f = sym (lists-is ∙ go others (sym (w ∙ text-word fmt refl h (i .value .start) text (first-string .at)) ∙ f))
       where
         go : (o : Option (List (List ℕ))) → same text fmt ≡ false → given formatAlone (bind o (λ ns. some (text ∷ ns))) ≡ false
         go none e = refl
@@ -97,12 +97,12 @@ module _ {h n : List ℕ} {x : Span} (a : Strings h n x) where
         go (icons v vs) o = two (string (plainItem v)) (stringsIn (plainItems vs))
 
     -- `fmt` alone
-    pub lists-one : (t : Bool) → TextIs h (i .value .start) fmt t → t ≡ true → i .next ≡ Bad → true ≡ given formatAlone (said strings n (reading h))
+    pub lists-one : (t : Bool) → t ≡ textIs h (i .value .start) fmt → t ≡ true → i .next ≡ Bad → true ≡ given formatAlone (said strings n (reading h))
     unfolding formatAlone stringsIn plainItems isAscii ascii fmt
     lists-one t w y e =
         let last : first-string .rest ≡ inil = subst (λ (r : End). ElementsFrom h (inside - 1) r (first-string .rest)) e (first-string .from) in
         sym (lists-is ∙ ap (λ (vs : LItems). given formatAlone (bind (stringsIn (plainItems vs)) (λ ns. some (text ∷ ns)))) last
-        ∙ sym (text-word fmt refl h (i .value .start) t w text (first-string .at)) ∙ y)
+        ∙ sym (w ∙ text-word fmt refl h (i .value .start) text (first-string .at)) ∙ y)
 
 -- WHEN THE RULE IS BROKEN
 

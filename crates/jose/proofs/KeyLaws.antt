@@ -16,8 +16,9 @@ use Rattle.common.specs.Same.{same}
 use Rattle.json_grammar.specs.Value.{Value}
 use Rattle.json_grammar.specs.Places.{stringK}
 use Rattle.json_string.specs.declared.Resolved.{Resolved}
-use Rattle.json_string.specs.declared.Resolved.the-variants.{Bytes, Long}
-use Rattle.json_string.specs.Strings.{NameAt, TextIs, Resolves, resolved, resolvedTo}
+use Rattle.json_string.specs.declared.Resolved.the-variants.{Bytes, Nothing as Unresolved}
+use Rattle.json_string.specs.Strings.{NameAt, textIs, resolved, resolvedTo, resolvedAt, resolvedToAt}
+use Rattle.json_string.specs.StringLaws.{name-resolved, name-resolved-to}
 use Rattle.json_string.specs.Utf8.{utf8}
 use Rattle.json.specs.declared.places.Kind.{Kind}
 use Rattle.json.specs.declared.places.Place.{Place as Span}
@@ -48,9 +49,9 @@ pub algorithm-absent : {h : List ℕ} → Stands h alg Absent → false ≡ othe
 algorithm-absent w = sym (ap (λ (o : Option Value). given (λ s. not (same s HS256)) (bind o string)) (no-member w))
 
 module _ {h : List ℕ} {k : Kind} {x : Span} (w : Stands h alg (Is k x)) where
-  pub algorithm-string : isOf stringK k ≡ true → (t : Bool) → TextIs h (x .start) HS256 t → not t ≡ otherAlgorithm (reading h)
+  pub algorithm-string : isOf stringK k ≡ true → (t : Bool) → t ≡ textIs h (x .start) HS256 → not t ≡ otherAlgorithm (reading h)
   unfolding isAscii ascii HS256
-  algorithm-string e t c = let s = string-at w e in ap not (text-word HS256 refl h (x .start) t c (s .0) (s .2)) ∙ sym (ap (given (λ s. not (same s HS256))) (s .1))
+  algorithm-string e t c = let s = string-at w e in ap not (c ∙ text-word HS256 refl h (x .start) (s .0) (s .2)) ∙ sym (ap (given (λ s. not (same s HS256))) (s .1))
 
   pub algorithm-other : isOf stringK k ≡ false → false ≡ otherAlgorithm (reading h)
   algorithm-other e = sym (ap (given (λ s. not (same s HS256))) (no-string-said w e))
@@ -65,26 +66,25 @@ written : (old u : List ℕ) → length u ≤ length old → resolvedTo old u �
 unfolding resolvedTo
 written old u l = rw (le-leb (length u) (length old) l)
 
-module _ (h : List ℕ) (p : ℕ) (old new : List ℕ) (r : Resolved) (s : Resolves h p old new r) (cs : List ℕ) (a : NameAt h p cs) where
-  answered : ((length (utf8 cs) ≤ length old) × (r ≡ Bytes (length (utf8 cs)))) ⊎ ((length old < length (utf8 cs)) × (r ≡ Long))
-  unfolding Resolves resolved
-  answered = go (leb (length (utf8 cs)) (length old)) refl (s cs a .0)
+module _ (h : List ℕ) (p : ℕ) (old new : List ℕ) (r : Resolved) (s : (r ≡ resolvedAt h p old) × (new ≡ resolvedToAt h p old)) (cs : List ℕ) (a : NameAt h p cs) where
+  answered : ((length (utf8 cs) ≤ length old) × (r ≡ Bytes (length (utf8 cs)))) ⊎ ((length old < length (utf8 cs)) × (r ≡ Unresolved))
+  unfolding resolved
+  answered = go (leb (length (utf8 cs)) (length old)) refl (s .0 ∙ name-resolved h p cs a old)
     where
-      go : (b : Bool) → leb (length (utf8 cs)) (length old) ≡ b → r ≡ cond b (Bytes (length (utf8 cs))) Long
-          → ((length (utf8 cs) ≤ length old) × (r ≡ Bytes (length (utf8 cs)))) ⊎ ((length old < length (utf8 cs)) × (r ≡ Long))
+      go : (b : Bool) → leb (length (utf8 cs)) (length old) ≡ b → r ≡ cond b (Bytes (length (utf8 cs))) Unresolved
+          → ((length (utf8 cs) ≤ length old) × (r ≡ Bytes (length (utf8 cs)))) ⊎ ((length old < length (utf8 cs)) × (r ≡ Unresolved))
       go true k e = inl (leb-true _ _ k, e)
       go false k e = inr (leb-false _ _ k, e)
 
   resolved-size : {n : ℕ} → r ≡ Bytes n → (n ≡ length (utf8 cs)) × (length (utf8 cs) ≤ length old)
   resolved-size e = ⊎-elim (λ w. (cc (w .1), w .0)) (λ w. let z : _≡_ {A = ℕ} 0 1 = cc (w .1) in absurd (omega arith)) answered
 
-  resolved-long : r ≡ Long → length old < length (utf8 cs)
+  resolved-long : r ≡ Unresolved → length old < length (utf8 cs)
   resolved-long e = ⊎-elim (λ w. let z : _≡_ {A = ℕ} 0 1 = cc (w .1) in absurd (omega arith)) (λ w. w .0) answered
 
   -- what the buffer holds
   resolved-now : {n : ℕ} → r ≡ Bytes n → new ≡ utf8 cs ++ drop (length (utf8 cs)) old
-  unfolding Resolves
-  resolved-now e = s cs a .1 ∙ written old (utf8 cs) (resolved-size e .1)
+  resolved-now e = s .1 ∙ name-resolved-to h p cs a old ∙ written old (utf8 cs) (resolved-size e .1)
 
   pub resolved-within : {n : ℕ} → r ≡ Bytes n → n ≤ length new
   resolved-within e =
@@ -96,11 +96,11 @@ module _ (h : List ℕ) (p : ℕ) (old new : List ℕ) (r : Resolved) (s : Resol
       let z : n - 0 ≡ length (utf8 cs) = omega (arith, resolved-size e .0) in
       rw (z, resolved-now e) (take-append-seam (utf8 cs) (drop (length (utf8 cs)) old))
 
-module _ (h T : List ℕ) (p : ℕ) (old new : List ℕ) (r : Resolved) (s : Resolves h p old new r) where
+module _ (h T : List ℕ) (p : ℕ) (old new : List ℕ) (r : Resolved) (s : (r ≡ resolvedAt h p old) × (new ≡ resolvedToAt h p old)) where
   pub named-found : {n : ℕ} {f : Found} → r ≡ Bytes n → f ≡ find (take (n - 0) (drop 0 new)) (keys T) → KeyNamed h p (keys T) f
   named-found e c = record { is = λ cs a. c ∙ ap (λ (u : List ℕ). find u (keys T)) (resolved-front h p old new r s cs a e) }
 
-  pub named-long : badTable T ≡ false → length old ≡ idMost → r ≡ Long → KeyNamed h p (keys T) Nothing
+  pub named-long : badTable T ≡ false → length old ≡ idMost → r ≡ Unresolved → KeyNamed h p (keys T) Nothing
   named-long b o e = record { is = λ cs a. sym (too-long T b (utf8 cs) (let l = resolved-long h p old new r s cs a e in omega arith)) }
 
 -- THE KEY THAT IS CHOSEN

@@ -8,7 +8,8 @@ use Rattle.common.specs.Same.{same}
 use Rattle.json_grammar.specs.Value.{LValue, LItem, LMembers, item, named, lnil, lcons}
 use Rattle.json_string.specs.declared.End.{End}
 use Rattle.json_string.specs.declared.End.the-variants.{At, Bad}
-use Rattle.json_string.specs.Strings.{NameAt, TextIs}
+use Rattle.json_string.specs.Strings.{NameAt, textIs}
+use Rattle.json_string.specs.StringLaws.{name-is}
 use Rattle.json.specs.declared.steps.Entry.{Entry}
 use Rattle.json.specs.Members.{MembersAt, MembersFrom, TopMembers, EntryAt, ValueIs}
 use Rattle.json.specs.Answers.{deepest, membersIn, checked}
@@ -31,15 +32,13 @@ module _ {h w : List ℕ} {p : ℕ} {m : Entry} where
   taken-kept Absent e t = clash (sym t ∙ e)
   taken-kept (Is k x) e t = record { is = λ cs a. refl }
 
-  module _ (t : Bool) (text : TextIs h (p + 1) w t) where
+  module _ (t : Bool) (text : t ≡ textIs h (p + 1) w) where
     pub taken-new : {b : Bool} (s : Slot) → b ≡ isThere s → b ≡ false → t ≡ true → Taken h p m w s (Is (m .kind) (m .value))
-    unfolding TextIs
-    taken-new Absent e f y = record { is = λ cs a. sym (ap (λ (q : Bool). takenBy q m Absent) (sym (text cs a) ∙ y)) }
+    taken-new Absent e f y = record { is = λ cs a. sym (ap (λ (q : Bool). takenBy q m Absent) (sym (text ∙ name-is h (p + 1) cs a w) ∙ y)) }
     taken-new (Is k x) e f y = clash (sym e ∙ f)
 
     pub taken-other : (s : Slot) → t ≡ false → Taken h p m w s s
-    unfolding TextIs
-    taken-other Absent y = record { is = λ cs a. sym (ap (λ (q : Bool). takenBy q m Absent) (sym (text cs a) ∙ y)) }
+    taken-other Absent y = record { is = λ cs a. sym (ap (λ (q : Bool). takenBy q m Absent) (sym (text ∙ name-is h (p + 1) cs a w) ∙ y)) }
     taken-other (Is k x) y = record { is = λ cs a. refl }
 
 -- ALL SLOTS

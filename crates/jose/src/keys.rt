@@ -98,7 +98,7 @@ fn named_key(header: &[u8], start: usize, table: &[u8]) -> Found
     let mut id = [0u8; 64];
     match resolve(header, start, &mut id) {
         Resolved::Bytes(n) => find(table, &id[0..n]),
-        Resolved::Long => Found::Nothing,
+        Resolved::Nothing => Found::Nothing,
     }
 }
 

@@ -16,7 +16,8 @@ use Rattle.json_grammar.specs.Scan.{namesTwice, scan-string, scan}
 use Rattle.json_string.specs.declared.End.{End}
 use Rattle.json_string.specs.declared.End.the-variants.{At, Bad}
 use Rattle.json_string.specs.Ends.{at-byte, left, shorter, fuel, ends-at, ends-bad}
-use Rattle.json_string.specs.Strings.{NameAt, SameText, StringEnds, Fingerprint}
+use Rattle.json_string.specs.Strings.{NameAt, sameText, StringEnds, fingerprintAt}
+use Rattle.json_string.specs.StringLaws.{names-same}
 use Rattle.json_reader.specs.Contracts.{SkipsTo, MembersEnd, readMembers}
 use Rattle.json_reader.specs.EndsLaws.{given, none}
 use Rattle.json.specs.declared.steps.Entry.{Entry}
@@ -66,9 +67,6 @@ joins n b ys e =
     ∙ ap (λ (t : Bool). t || repeated ys) (sym (crosses-more n b ys))
 
 -- a callee's contract at the answer that it gave
-pub texts : (s : List ℕ) (p q : ℕ) {r r′ : Bool} → r ≡ r′ → SameText s p q r → SameText s p q r′
-texts s p q e h = subst (λ (z : Bool). SameText s p q z) e h
-
 pub answered : {s : List ℕ} {p : ℕ} (d : ℕ) {r r′ : Bool} → r ≡ r′ → NamesTwice s p d r → NamesTwice s p d r′
 answered {s} {p} d e h = subst (λ (z : Bool). NamesTwice s p d z) e h
 
@@ -90,24 +88,24 @@ module _ {s a : List ℕ} where
       go : (n : List ℕ) (b : List (List ℕ)) → Block s a 0 b → NameAt s q n → among n b ≡ false
       go n b empty h = refl
 
-  pub without-next : {i q : ℕ} → Without s a i q → SameText s q (getD a i 0) false → Without s a (i + 1) q
-  unfolding SameText among
+  pub without-next : {i q : ℕ} → Without s a i q → sameText s q (getD a i 0) ≡ false → Without s a (i + 1) q
+  unfolding among
   without-next {i} {q} w t = record { is = λ n b k h. go n h b (subst (λ (j : ℕ). Block s a j b) (add-one i) k) }
     where
       go : (n : List ℕ) → NameAt s q n → (b : List (List ℕ)) → Block s a (suc i) b → among n b ≡ false
-      go n h (m ∷ c) (one-more x y) = ap₂ _||_ (sym (t n m h x)) (w .is n c y h)
+      go n h (m ∷ c) (one-more x y) = ap₂ _||_ (sym (names-same s q (getD a i 0) n m h x) ∙ t) (w .is n c y h)
 
   pub without-all : {k i q : ℕ} → Without s a i q → i ≤ k → k ≤ i → Without s a k q
   without-all {k} {i} {q} w l h = let e : i ≡ k = omega arith in subst (λ (j : ℕ). Without s a j q) e w
 
   -- a name equal to the name at q is among them
-  found : {k : ℕ} {b : List (List ℕ)} → Block s a k b → (i q : ℕ) → i < k → (n : List ℕ) → NameAt s q n → SameText s q (getD a i 0) true → among n b ≡ true
-  unfolding SameText among
+  found : {k : ℕ} {b : List (List ℕ)} → Block s a k b → (i q : ℕ) → i < k → (n : List ℕ) → NameAt s q n → sameText s q (getD a i 0) ≡ true → among n b ≡ true
+  unfolding among
   found empty i q l n h t = absurd (omega arith)
   found (one-more {k = k} {n = m} {b = b} x y) i q l n h t = go (eqb i k) refl (λ j. found y i q j n h t)
     where
       go : (e : Bool) → eqb i k ≡ e → (i < k → among n b ≡ true) → same n m || among n b ≡ true
-      go true e ih = ap (λ (z : Bool). z || among n b) (sym (t n m h (subst (λ (j : ℕ). NameAt s (getD a j 0) m) (sym (eqb-true i k e)) x)))
+      go true e ih = ap (λ (z : Bool). z || among n b) (sym (names-same s q (getD a i 0) n m h (subst (λ (j : ℕ). NameAt s (getD a j 0) m) (sym (eqb-true i k e)) x)) ∙ t)
       go false e ih = let z = eqb-false i k e in or-true (same n m) (among n b) (ih (omega arith))
 
   -- a place past the block may be set
@@ -119,19 +117,15 @@ module _ {s a : List ℕ} where
 -- THE FINGERPRINTS of the block
 
 pub fingerprinted-start : (s a m : List ℕ) → Fingerprinted s a m 0
-fingerprinted-start s a m = record { places = λ i l. absurd (omega arith); fingerprints = λ i l. absurd (omega arith) }
+fingerprinted-start s a m = record { fingerprints = λ i l. absurd (omega arith) }
 
 pub fingerprinted-full : {s a m : List ℕ} {k j : ℕ} → k ≡ j → Fingerprinted s a m k → Fingerprinted s a m j
 fingerprinted-full {s} {a} {m} {k} {j} e h = subst (λ (i : ℕ). Fingerprinted s a m i) e h
 
-pub fingerprinted-next : {s a m : List ℕ} {k q : ℕ} → Fingerprinted s a m k → q ≤ length s → (x : ℕ) → Fingerprint s q x → k < length a → k < length m → Fingerprinted s (set a k q) (set m k x) (k + 1)
-fingerprinted-next {s} {a} {m} {k} {q} h l x f u v = record { places = λ i c. place i c (eqb i k) refl; fingerprints = λ i c. print i c (eqb i k) refl }
+pub fingerprinted-next : {s a m : List ℕ} {k : ℕ} → Fingerprinted s a m k → (q x : ℕ) → x ≡ fingerprintAt s q → k < length a → k < length m → Fingerprinted s (set a k q) (set m k x) (k + 1)
+fingerprinted-next {s} {a} {m} {k} h q x f u v = record { fingerprints = λ i c. print i c (eqb i k) refl }
   where
-    place : (i : ℕ) → i < k + 1 → (t : Bool) → eqb i k ≡ t → getD (set a k q) i 0 ≤ length s
-    place i c true z = let j = eqb-true i k z in rw (j, getD-set-same a k q 0 u) l
-    place i c false z = let j = eqb-false i k z in rw (getD-set-other a k i q 0 j) (h .places i (omega arith))
-
-    print : (i : ℕ) → i < k + 1 → (t : Bool) → eqb i k ≡ t → Fingerprint s (getD (set a k q) i 0) (getD (set m k x) i 0)
+    print : (i : ℕ) → i < k + 1 → (t : Bool) → eqb i k ≡ t → getD (set m k x) i 0 ≡ fingerprintAt s (getD (set a k q) i 0)
     print i c true z = let j = eqb-true i k z in rw (j, getD-set-same a k q 0 u, getD-set-same m k x 0 v) f
     print i c false z = let j = eqb-false i k z in rw (getD-set-other a k i q 0 j, getD-set-other m k i x 0 j) (h .fingerprints i (omega arith))
 
@@ -165,7 +159,7 @@ no-past e = absurd (let z : _≡_ {A = ℕ} 0 1 = cc in omega arith)
 
 module _ {s : List ℕ} {from : ℕ} (d : ℕ) {a : List ℕ} {k p : ℕ} (fl : Filling s d from a k p) where
   -- the name at p is in the block
-  pub filling-found : (i : ℕ) → i < k → SameText s (p + 1) (getD a i 0) true → Searched s from d Twice
+  pub filling-found : (i : ℕ) → i < k → sameText s (p + 1) (getD a i 0) ≡ true → Searched s from d Twice
   unfolding crosses names plain
   filling-found i l t = record { later = λ q e. no-past e; is = λ ms m. let f = fl .is ms m in go ms f (f .rest) (f .here) (f .agrees) }
     where
@@ -240,7 +234,7 @@ module _ {s : List ℕ} {from : ℕ} (d : ℕ) {a : List ℕ} {k p : ℕ} (fl : 
 -- WHEN IT IS FULL: the names from p on are compared with it
 
 module _ (s : List ℕ) {a : List ℕ} {k : ℕ} (p d : ℕ) where
-  pub meets-found : (i : ℕ) → i < k → SameText s (p + 1) (getD a i 0) true → Meets s a k p d true
+  pub meets-found : (i : ℕ) → i < k → sameText s (p + 1) (getD a i 0) ≡ true → Meets s a k p d true
   unfolding crosses names plain
   meets-found i l t = record { is = go }
     where

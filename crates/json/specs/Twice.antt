@@ -8,7 +8,7 @@ use Rattle.json_grammar.specs.Value.{among, repeated, names, LMembers, plainMem
 use Rattle.json_grammar.specs.Reader.{ws}
 use Rattle.json_grammar.specs.Scan.{namesTwice, scan}
 use Rattle.json_string.specs.declared.End.the-variants.{At}
-use Rattle.json_string.specs.Strings.{NameAt, Fingerprint}
+use Rattle.json_string.specs.Strings.{NameAt, fingerprintAt}
 use Rattle.json_reader.specs.Contracts.{readMembers}
 use Rattle.json.specs.declared.names.Search.{Search}
 use Rattle.json.specs.declared.names.Search.the-variants.{Twice, Past}
@@ -26,10 +26,9 @@ pub data Block (s a : List ℕ) : ℕ → List (List ℕ) → Type 0 where
   empty : Block s a 0 []
   one-more : {k : ℕ} {n : List ℕ} {b : List (List ℕ)} → NameAt s (getD a k 0) n → Block s a k b → Block s a (suc k) (n ∷ b)
 
--- the first k places of a lie in s, and the fingerprints of the names there are those of m
+-- the fingerprints of the names at the first k places of a are those of m
 pub record Fingerprinted (s a m : List ℕ) (k : ℕ) : Type 0 where
-  pub places : (i : ℕ) → i < k → getD a i 0 ≤ length s
-  pub fingerprints : (i : ℕ) → i < k → Fingerprint s (getD a i 0) (getD m i 0)
+  pub fingerprints : (i : ℕ) → i < k → getD m i 0 ≡ fingerprintAt s (getD a i 0)
 
 -- some name of ys is among the names b
 unfoldable pub crosses : List (List ℕ) → List (List ℕ) → Bool

@@ -12,7 +12,7 @@ use Rattle.json_grammar.specs.Grammar.{Utf8, utf8-1, utf8-2, utf8-E0, ut
 use Rattle.json_grammar.specs.Grammar.{Short, quote, reverse-solidus, solidus, backspace, form-feed, line-feed, carriage-return, tab, shortByte}
 use Rattle.json_grammar.specs.Grammar.{shortCode}
 use Rattle.json_grammar.specs.Grammar.{Char, unescaped, short, unicode, surrogates, Chars, cnil, ccons, yieldChar, yieldChars, codeOf, codesOf}
-use Rattle.json_grammar.specs.Reader.{Got, got, then, over, one, expect, CharLead, lead2, lead3, lead4, isUnescaped1, charLead, readTwo}
+use Rattle.json_grammar.specs.Reader.{Got, bad, got, then, over, one, expect, CharLead, lead2, lead3, lead4, isUnescaped1, charLead, readTwo}
 use Rattle.json_grammar.specs.Reader.{readThree, readFour}
 use Rattle.json_grammar.specs.Reader.{hex-by, readHex, low-by, readLow, unicode-by, readUnicode, EscapeLead, escapeLeadOf, escape-by, readEscape}
 use Rattle.json_grammar.specs.Reader.{char-by, readChar, chars-by, chars, readChars}
@@ -329,3 +329,24 @@ chars-sound (suc n) (b ∷ s) x r e = go (eqb b 0x22) refl e (λ y a. chars-soun
         let c = char-sound (b ∷ s) (i .0) (i .1) (i .2) in
         let k = ih (i .1) (j .0) (j .1) in
         (ccons (c .0) (k .0), c .1 ∙ ap (yieldChar (c .0)) (k .1))
+
+-- FUEL: as much as there are bytes is enough
+
+pub chars-read : (n : ℕ) (s x r : List ℕ) → length s ≤ n → readChars n s ≡ got x r → (cs : Chars) × (s ≡ yieldChars cs (0x22 ∷ r)) × (codesOf cs ≡ x)
+chars-read n s x r h e =
+    let i = chars-sound n s x r e in
+    let q : got (codesOf (i .0)) r ≡ got x r = sym (complete-chars (i .0) n r (rw (i .1) at h)) ∙ sym (ap (readChars n) (i .1)) ∙ e in
+    (i .0, i .1, cc)
+
+pub chars-fuel : (n m : ℕ) (s : List ℕ) → length s ≤ n → length s ≤ m → readChars n s ≡ readChars m s
+chars-fuel n m s h k = go (readChars n s) (readChars m s) refl refl
+  where
+    again : (a b : ℕ) → length s ≤ a → length s ≤ b → (x r : List ℕ) → readChars a s ≡ got x r → readChars b s ≡ got x r
+    again a b h k x r e =
+        let i = chars-read a s x r h e in
+        ap (readChars b) (i .1) ∙ complete-chars (i .0) b r (rw (i .1) at k) ∙ ap (λ (c : List ℕ). got c r) (i .2)
+
+    go : (f g : Got (List ℕ)) → readChars n s ≡ f → readChars m s ≡ g → readChars n s ≡ readChars m s
+    go (got x r) g e i = e ∙ sym (again n m h k x r e)
+    go bad (got x r) e i = again m n k h x r i ∙ sym i
+    go bad bad e i = e ∙ sym i

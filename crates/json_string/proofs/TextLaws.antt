@@ -1,156 +1,168 @@
--- Laws of strings compared: what stands at a place where a string does, two strings, a string and a word.
+-- Laws of strings compared: what stands at a place, two strings, a string and a word.
 use mathlib.Core.Path.{_≡_, refl, sym, ap, ap₂, _∙_, subst}
 use mathlib.Core.Bool.{Bool, true, false}
 use mathlib.Core.List.{List, [], _∷_}
-use Prim.Native.Nat.{ℕ, zero, suc, _+_, _≤_, _<_}
+use Prim.Native.Nat.{ℕ, suc, _+_, _≤_, _<_}
 use native.Mathlib.Omega.{arith}
 use lib.Dec.{eqb}
 use lib.ListN.{length, drop, getD, drop-of-length-le}
 use borrow.Author.Tests.{eq-eqb, ne-eqb, eqb-true, eqb-false}
 use Rattle.common.specs.Decided.{test-false}
 use Rattle.common.specs.Same.{same, decides-same}
-use Rattle.json_grammar.specs.Reader.{Got, got, then, over, isUnescaped1, readChar, readChars}
-use Rattle.json_grammar.specs.ReaderLaws.{no-bad, then-inv, over-inv}
+use Rattle.json_grammar.specs.Reader.{Got, bad, got, then, over, isUnescaped1, readChar, readChars}
+use Rattle.json_grammar.specs.CharLaws.{chars-fuel}
 use Rattle.json_string.specs.declared.End.{End}
 use Rattle.json_string.specs.declared.End.the-variants.{At, Bad}
 use Rattle.json_string.specs.declared.Scan.the-variants.{Code, Wrong}
-use Rattle.json_string.specs.Ends.{at-byte, farther}
-use Rattle.json_string.specs.Strings.{CharAt, NameAt, SameText, TextIs, mix, mixAll, Mixed, Fingerprint}
+use Rattle.json_string.specs.Ends.{at-byte, shorter}
+use Rattle.json_string.specs.Strings.{CharAt, textAt, given, sameOf, sameText, mix, mixAll, mixedAt, fingerprintAt, textIs}
 use Rattle.json_string.specs.Utf8.{utf8}
 use Rattle.json_string.specs.Steps.{OctetsEnd}
 use Rattle.json_string.proofs.CharLaws.{char-plain, plain-quote, chars-step, chars-quote, none-left}
 
 -- A STRING AT A PLACE
 
-module _ (s : List ℕ) (p : ℕ) (cs : List ℕ) where
-  pub name-out : {B : Type 0} → length s ≤ p → NameAt s p cs → B
-  unfolding NameAt
-  name-out h k = no-bad (sym (ap (readChars (k .0)) (drop-of-length-le s h) ∙ none-left (k .0)) ∙ k .3)
+pub text-out : (s : List ℕ) (p : ℕ) → length s ≤ p → textAt s p ≡ bad
+unfolding textAt
+text-out s p h = ap (readChars (length (drop p s))) (drop-of-length-le s h) ∙ none-left (length (drop p s))
 
-  pub name-quote : p < length s → getD s p 0 ≡ 0x22 → NameAt s p cs → cs ≡ []
-  unfolding NameAt readChars
-  name-quote h b k = go (k .0) (k .2) (k .3)
-    where
-      go : (n : ℕ) (r : List ℕ) → readChars n (drop p s) ≡ got cs r → cs ≡ []
-      go zero r e = no-bad e
-      go (suc n) r e = let q = chars-quote s p h n b in cc
+module _ (s : List ℕ) (p : ℕ) (h : p < length s) where
+  -- the fuel that is left after the byte at p
+  abbrev after : ℕ
+  after = length (drop (p + 1) s)
 
-  module _ (h : p < length s) (b : getD s p 0 ≡ 0x22 → ⊥) where
-    -- it has a first character
-    name-some : NameAt s p cs → (c : ℕ) × (a : List ℕ) × (c ∷ a ≡ cs)
-    unfolding NameAt readChars
-    name-some k = go (k .0) (k .2) (k .3)
+  text-fuel : textAt s p ≡ readChars (suc after) (drop p s)
+  unfolding textAt
+  text-fuel = ap (λ (n : ℕ). readChars n (drop p s)) (ap length (at-byte s p h))
+
+  pub text-quote : getD s p 0 ≡ 0x22 → textAt s p ≡ got [] (drop (p + 1) s)
+  text-quote b = text-fuel ∙ chars-quote s p h after b
+
+  module _ (b : getD s p 0 ≡ 0x22 → ⊥) where
+    -- what the first character g, and those after it, give
+    abbrev read-on : Got ℕ → Got (List ℕ)
+    read-on g = then g (λ c r. over (λ cs. c ∷ cs) (readChars after r))
+
+    text-first : textAt s p ≡ read-on (readChar (drop p s))
+    text-first = text-fuel ∙ chars-step s p h after b
+
+    pub text-wrong : CharAt s p Wrong → textAt s p ≡ bad
+    unfolding CharAt
+    text-wrong w = text-first ∙ ap read-on w
+
+    pub text-step : (c e : ℕ) → CharAt s p (Code c e) → textAt s p ≡ over (λ cs. c ∷ cs) (textAt s e)
+    unfolding CharAt textAt
+    text-step c e w =
+        text-first ∙ ap read-on (w .2)
+        ∙ ap (over (λ cs. c ∷ cs)) (chars-fuel after (length (drop e s)) (drop e s) (shorter s (p + 1) e after (w .0) (omega arith)) (omega arith))
+
+    -- a string there is not empty
+    pub text-some : (f : List ℕ → Bool) → ((c : ℕ) (a : List ℕ) → f (c ∷ a) ≡ false) → given f false (textAt s p) ≡ false
+    text-some f n = ap (given f false) text-first ∙ go (readChar (drop p s))
       where
-        go : (n : ℕ) (r : List ℕ) → readChars n (drop p s) ≡ got cs r → (c : ℕ) × (a : List ℕ) × (c ∷ a ≡ cs)
-        go zero r e = no-bad e
-        go (suc n) r e =
-            let i = then-inv (readChar (drop p s)) (λ c r. over (λ cs. c ∷ cs) (readChars n r)) cs r (sym (chars-step s p h n b) ∙ e) in
-            let j = over-inv (λ cs. i .0 ∷ cs) (readChars n (i .1)) cs r (i .3) in
-            (i .0, j .0, j .2)
+        more : (c : ℕ) (g : Got (List ℕ)) → given f false (over (λ cs. c ∷ cs) g) ≡ false
+        more c (got a r) = n c a
+        more c bad = refl
 
-    pub name-wrong : {B : Type 0} → CharAt s p Wrong → NameAt s p cs → B
-    unfolding NameAt CharAt readChars
-    name-wrong {B} w k = go (k .0) (k .2) (k .3)
-      where
-        go : (n : ℕ) (r : List ℕ) → readChars n (drop p s) ≡ got cs r → B
-        go zero r e = no-bad e
-        go (suc n) r e = no-bad (sym (chars-step s p h n b ∙ ap (λ (g : Got ℕ). then g (λ c r. over (λ cs. c ∷ cs) (readChars n r))) w) ∙ e)
+        go : (g : Got ℕ) → given f false (read-on g) ≡ false
+        go (got c r) = more c (readChars after r)
+        go bad = refl
 
-    pub name-step : (c e : ℕ) → CharAt s p (Code c e) → NameAt s p cs → (a : List ℕ) × (c ∷ a ≡ cs) × NameAt s e a
-    unfolding NameAt CharAt readChars
-    name-step c e w k = go (k .0) (k .1) (k .2) (k .3)
-      where
-        go : (n : ℕ) → length (drop p s) ≤ n → (r : List ℕ) → readChars n (drop p s) ≡ got cs r → (a : List ℕ) × (c ∷ a ≡ cs) × NameAt s e a
-        go zero l r f = no-bad f
-        go (suc n) l r f =
-            let q : readChars (suc n) (drop p s) ≡ over (λ cs. c ∷ cs) (readChars n (drop e s)) = chars-step s p h n b ∙ ap (λ (g : Got ℕ). then g (λ c r. over (λ cs. c ∷ cs) (readChars n r))) (w .2) in
-            let i = over-inv (λ cs. c ∷ cs) (readChars n (drop e s)) cs r (sym q ∙ f) in
-            (i .0, i .2, (n, omega (arith, farther s p e (omega (arith, w .0)) h), r, i .1))
+-- f of what is made of what was read
+given-over : {A B C : Type 0} (f : B → C) (k : A → B) (f′ : A → C) (d : C) → ((a : A) → f (k a) ≡ f′ a) → (g : Got A) → given f d (over k g) ≡ given f′ d g
+given-over f k f′ d e (got a r) = e a
+given-over f k f′ d e bad = refl
+
+given-same : {A B : Type 0} (d : B) (g : Got A) → given (λ _. d) d g ≡ d
+given-same d (got a r) = refl
+given-same d bad = refl
 
 -- TWO STRINGS
 
-module _ (s : List ℕ) (i j : ℕ) where
-  pub same-out-i : length s ≤ i → SameText s i j false
-  unfolding SameText
-  same-out-i h cs ds k l = name-out s i cs h k
+none-second : (g : Got (List ℕ)) → sameOf g bad ≡ false
+none-second (got cs r) = refl
+none-second bad = refl
 
-  pub same-out-j : length s ≤ j → SameText s i j false
-  unfolding SameText
-  same-out-j h cs ds k l = name-out s j ds h l
+sames : (x y : ℕ) (g k : Got (List ℕ)) → x ≡ y → sameOf (over (λ cs. x ∷ cs) g) (over (λ cs. y ∷ cs) k) ≡ sameOf g k
+unfolding same
+sames x y (got cs r) (got ds t) e = rw (eq-eqb x y e)
+sames x y (got cs r) bad e = refl
+sames x y bad k e = refl
+
+differs : (x y : ℕ) (g k : Got (List ℕ)) → (x ≡ y → ⊥) → sameOf (over (λ cs. x ∷ cs) g) (over (λ cs. y ∷ cs) k) ≡ false
+unfolding same
+differs x y (got cs r) (got ds t) e = rw (ne-eqb x y e)
+differs x y (got cs r) bad e = refl
+differs x y bad k e = refl
+
+module _ (s : List ℕ) (i j : ℕ) where
+  pub same-none-i : textAt s i ≡ bad → false ≡ sameText s i j
+  unfolding sameText
+  same-none-i h = sym (ap (λ (g : Got (List ℕ)). sameOf g (textAt s j)) h)
+
+  pub same-none-j : textAt s j ≡ bad → false ≡ sameText s i j
+  unfolding sameText
+  same-none-j h = sym (ap (sameOf (textAt s i)) h ∙ none-second (textAt s i))
 
   module _ (h : i < length s) (h′ : j < length s) where
-    pub same-quote-i : getD s i 0 ≡ 0x22 → SameText s i j (eqb (getD s j 0) 0x22)
-    unfolding SameText same
-    same-quote-i b cs ds k l = go (eqb (getD s j 0) 0x22) refl
+    pub same-quote-i : getD s i 0 ≡ 0x22 → eqb (getD s j 0) 0x22 ≡ sameText s i j
+    unfolding sameText same
+    same-quote-i b = go (eqb (getD s j 0) 0x22) refl ∙ sym (ap (λ (g : Got (List ℕ)). sameOf g (textAt s j)) (text-quote s i h b))
       where
-        ec : cs ≡ []
-        ec = name-quote s i cs h b k
-
-        go : (t : Bool) → eqb (getD s j 0) 0x22 ≡ t → eqb (getD s j 0) 0x22 ≡ same cs ds
-        go true e = e ∙ sym (ap₂ same ec (name-quote s j ds h′ (eqb-true (getD s j 0) 0x22 e) l))
-        go false e = let a = name-some s j ds h′ (eqb-false (getD s j 0) 0x22 e) l in e ∙ sym (ap₂ same ec (sym (a .2)))
+        go : (t : Bool) → eqb (getD s j 0) 0x22 ≡ t → eqb (getD s j 0) 0x22 ≡ given (same []) false (textAt s j)
+        go true e = e ∙ sym (ap (given (same []) false) (text-quote s j h′ (eqb-true (getD s j 0) 0x22 e)))
+        go false e = e ∙ sym (text-some s j h′ (eqb-false (getD s j 0) 0x22 e) (same []) (λ c a. refl))
 
     module _ (b : getD s i 0 ≡ 0x22 → ⊥) where
-      pub same-quote-j : getD s j 0 ≡ 0x22 → SameText s i j false
-      unfolding SameText same
-      same-quote-j b′ cs ds k l = let a = name-some s i cs h b k in sym (ap₂ same (sym (a .2)) (name-quote s j ds h′ b′ l))
+      pub same-quote-j : getD s j 0 ≡ 0x22 → false ≡ sameText s i j
+      unfolding sameText same
+      same-quote-j b′ = sym (ap (sameOf (textAt s i)) (text-quote s j h′ b′) ∙ go (textAt s i) ∙ text-some s i h b (λ cs. same cs []) (λ c a. refl))
+        where
+          go : (g : Got (List ℕ)) → sameOf g (got [] (drop (j + 1) s)) ≡ given (λ cs. same cs []) false g
+          go (got cs r) = refl
+          go bad = refl
 
-      pub same-wrong-i : CharAt s i Wrong → SameText s i j false
-      unfolding SameText
-      same-wrong-i w cs ds k l = name-wrong s i cs h b w k
+      module _ (b′ : getD s j 0 ≡ 0x22 → ⊥) (x i₂ y j₂ : ℕ) (w : CharAt s i (Code x i₂)) (w′ : CharAt s j (Code y j₂)) where
+        firsts : sameText s i j ≡ sameOf (over (λ cs. x ∷ cs) (textAt s i₂)) (over (λ cs. y ∷ cs) (textAt s j₂))
+        unfolding sameText
+        firsts = ap₂ sameOf (text-step s i h b x i₂ w) (text-step s j h′ b′ y j₂ w′)
 
-      module _ (b′ : getD s j 0 ≡ 0x22 → ⊥) where
-        pub same-wrong-j : CharAt s j Wrong → SameText s i j false
-        unfolding SameText
-        same-wrong-j w cs ds k l = name-wrong s j ds h′ b′ w l
+        pub same-step : x ≡ y → sameText s i₂ j₂ ≡ sameText s i j
+        unfolding sameText
+        same-step e = sym (firsts ∙ sames x y (textAt s i₂) (textAt s j₂) e)
 
-        module _ (x i₂ y j₂ : ℕ) (w : CharAt s i (Code x i₂)) (w′ : CharAt s j (Code y j₂)) where
-          pub same-step : (r : Bool) → x ≡ y → SameText s i₂ j₂ r → SameText s i j r
-          unfolding SameText same
-          same-step r e rest cs ds k l =
-              let a = name-step s i cs h b x i₂ w k in
-              let c = name-step s j ds h′ b′ y j₂ w′ l in
-              let q : same (x ∷ a .0) (y ∷ c .0) ≡ same (a .0) (c .0) = rw (eq-eqb x y e) in
-              rest (a .0) (c .0) (a .2) (c .2) ∙ sym q ∙ ap₂ same (a .1) (c .1)
-
-          pub same-differ : (x ≡ y → ⊥) → SameText s i j false
-          unfolding SameText same
-          same-differ e cs ds k l =
-              let a = name-step s i cs h b x i₂ w k in
-              let c = name-step s j ds h′ b′ y j₂ w′ l in
-              let q : same (x ∷ a .0) (y ∷ c .0) ≡ false = rw (ne-eqb x y e) in
-              sym q ∙ ap₂ same (a .1) (c .1)
+        pub same-differ : (x ≡ y → ⊥) → false ≡ sameText s i j
+        same-differ e = sym (firsts ∙ differs x y (textAt s i₂) (textAt s j₂) e)
 
 -- FINGERPRINTS
 
 module _ (s : List ℕ) (i g : ℕ) where
-  pub mixed-out : (r : ℕ) → length s ≤ i → Mixed s i g r
-  unfolding Mixed
-  mixed-out r h cs k = name-out s i cs h k
+  pub mixed-none : textAt s i ≡ bad → 0 ≡ mixedAt s i g
+  unfolding mixedAt
+  mixed-none h = sym (ap (given (mixAll g) 0) h)
 
   module _ (h : i < length s) where
-    pub mixed-quote : getD s i 0 ≡ 0x22 → Mixed s i g g
-    unfolding Mixed mixAll
-    mixed-quote b cs k = sym (ap (mixAll g) (name-quote s i cs h b k))
+    pub mixed-quote : getD s i 0 ≡ 0x22 → g ≡ mixedAt s i g
+    unfolding mixedAt mixAll
+    mixed-quote b = sym (ap (given (mixAll g) 0) (text-quote s i h b))
 
-    module _ (b : getD s i 0 ≡ 0x22 → ⊥) where
-      pub mixed-wrong : (r : ℕ) → CharAt s i Wrong → Mixed s i g r
-      unfolding Mixed
-      mixed-wrong r w cs k = name-wrong s i cs h b w k
+    pub mixed-step : (getD s i 0 ≡ 0x22 → ⊥) → (c e x : ℕ) → CharAt s i (Code c e) → x ≡ mix g c → mixedAt s e x ≡ mixedAt s i g
+    unfolding mixedAt mixAll
+    mixed-step b c e x w m =
+        sym (ap (given (mixAll g) 0) (text-step s i h b c e w) ∙ given-over (mixAll g) (λ cs. c ∷ cs) (mixAll x) 0 (λ cs. ap (λ (y : ℕ). mixAll y cs) (sym m)) (textAt s e))
 
-      pub mixed-step : (c e x r : ℕ) → CharAt s i (Code c e) → x ≡ mix g c → Mixed s e x r → Mixed s i g r
-      unfolding Mixed mixAll
-      mixed-step c e x r w m rest cs k =
-          let a = name-step s i cs h b c e w k in
-          rest (a .0) (a .2) ∙ ap (λ (y : ℕ). mixAll y (a .0)) m ∙ ap (mixAll g) (a .1)
-
-pub mixed-plain : (s : List ℕ) (i g : ℕ) → i < length s → (c x r : ℕ) → isUnescaped1 (getD s i 0) ≡ true → c ≡ getD s i 0 → x ≡ mix g c → Mixed s (i + 1) x r → Mixed s i g r
-mixed-plain s i g h c x r e k m rest = mixed-step s i g h (plain-quote (getD s i 0) e) c (i + 1) x r (char-plain s i h c e k) m rest
+    pub mixed-plain : (c x : ℕ) → isUnescaped1 (getD s i 0) ≡ true → c ≡ getD s i 0 → x ≡ mix g c → mixedAt s (i + 1) x ≡ mixedAt s i g
+    mixed-plain c x e k m = mixed-step (plain-quote (getD s i 0) e) c (i + 1) x (char-plain s i h c e k) m
 
 -- strings with other fingerprints have other code points
-pub fingerprints-differ : (s : List ℕ) (p q x y : ℕ) → Fingerprint s p x → Fingerprint s q y → (x ≡ y → ⊥) → SameText s p q false
-unfolding Mixed SameText
-fingerprints-differ s p q x y f g n cs ds k l = sym (test-false (decides-same cs ds) (λ e. n (f cs k ∙ ap (mixAll 0) e ∙ sym (g ds l))))
+pub fingerprints-differ : (s : List ℕ) (p q x y : ℕ) → x ≡ fingerprintAt s p → y ≡ fingerprintAt s q → (x ≡ y → ⊥) → false ≡ sameText s p q
+unfolding mixedAt sameText
+fingerprints-differ s p q x y = go (textAt s p) (textAt s q)
+  where
+    go : (g k : Got (List ℕ)) → x ≡ given (mixAll 0) 0 g → y ≡ given (mixAll 0) 0 k → (x ≡ y → ⊥) → false ≡ sameOf g k
+    go (got cs r) (got ds t) e f n = sym (test-false (decides-same cs ds) (λ z. n (e ∙ ap (mixAll 0) z ∙ sym f)))
+    go (got cs r) bad e f n = refl
+    go bad k e f n = refl
 
 -- A STRING AND A WORD
 
@@ -161,33 +173,31 @@ pub word-after : (w : List ℕ) (at c e : ℕ) → OctetsEnd w at c (At e) → e
 unfolding OctetsEnd
 word-after w at c e h = h .1
 
-pub is-out : (s : List ℕ) (i : ℕ) (w : List ℕ) → length s ≤ i → TextIs s i w false
-unfolding TextIs
-is-out s i w h cs k = name-out s i cs h k
+pub is-none : (s : List ℕ) (i : ℕ) (w : List ℕ) → textAt s i ≡ bad → false ≡ textIs s i w
+unfolding textIs
+is-none s i w h = sym (ap (given (λ cs. same (utf8 cs) w) false) h)
 
 module _ (s : List ℕ) (i : ℕ) (w : List ℕ) (k : ℕ) (h : i < length s) where
-  pub is-quote : getD s i 0 ≡ 0x22 → k ≤ length w → TextIs s i (drop k w) (eqb k (length w))
-  unfolding TextIs same utf8
-  is-quote b l cs n = go (eqb k (length w)) refl ∙ sym (ap (λ (x : List ℕ). same (utf8 x) (drop k w)) (name-quote s i cs h b n))
+  pub is-quote : getD s i 0 ≡ 0x22 → k ≤ length w → eqb k (length w) ≡ textIs s i (drop k w)
+  unfolding textIs same utf8
+  is-quote b l = go (eqb k (length w)) refl ∙ sym (ap (given (λ cs. same (utf8 cs) (drop k w)) false) (text-quote s i h b))
     where
       go : (t : Bool) → eqb k (length w) ≡ t → eqb k (length w) ≡ same [] (drop k w)
       go true e = e ∙ sym (ap (same []) (drop-of-length-le w {i = k} (omega (arith, eqb-true k (length w) e))))
       go false e = e ∙ sym (ap (same []) (at-byte w k (omega (arith, eqb-false k (length w) e))))
 
-  module _ (b : getD s i 0 ≡ 0x22 → ⊥) where
-    pub is-wrong : CharAt s i Wrong → TextIs s i (drop k w) false
-    unfolding TextIs
-    is-wrong x cs n = name-wrong s i cs h b x n
+  module _ (b : getD s i 0 ≡ 0x22 → ⊥) (c e : ℕ) (x : CharAt s i (Code c e)) where
+    -- by what f makes of the characters after the first
+    is-more : (f : List ℕ → Bool) → ((cs : List ℕ) → same (utf8 (c ∷ cs)) (drop k w) ≡ f cs) → textIs s i (drop k w) ≡ given f false (textAt s e)
+    unfolding textIs
+    is-more f q =
+        ap (given (λ cs. same (utf8 cs) (drop k w)) false) (text-step s i h b c e x)
+        ∙ given-over (λ cs. same (utf8 cs) (drop k w)) (λ cs. c ∷ cs) f false q (textAt s e)
 
-    module _ (c e : ℕ) (x : CharAt s i (Code c e)) where
-      pub is-step : (m : ℕ) (r : Bool) → OctetsEnd w k c (At m) → TextIs s e (drop m w) r → TextIs s i (drop k w) r
-      unfolding TextIs utf8 OctetsEnd
-      is-step m r o rest cs n =
-          let a = name-step s i cs h b c e x n in
-          rest (a .0) (a .2) ∙ sym (o .2 (utf8 (a .0))) ∙ ap (λ (l : List ℕ). same (utf8 l) (drop k w)) (a .1)
+    pub is-step : (m : ℕ) → OctetsEnd w k c (At m) → textIs s e (drop m w) ≡ textIs s i (drop k w)
+    unfolding textIs utf8 OctetsEnd
+    is-step m o = sym (is-more (λ cs. same (utf8 cs) (drop m w)) (λ cs. o .2 (utf8 cs)))
 
-      pub is-differ : OctetsEnd w k c Bad → TextIs s i (drop k w) false
-      unfolding TextIs utf8 OctetsEnd
-      is-differ o cs n =
-          let a = name-step s i cs h b c e x n in
-          sym (o (utf8 (a .0))) ∙ ap (λ (l : List ℕ). same (utf8 l) (drop k w)) (a .1)
+    pub is-differ : OctetsEnd w k c Bad → false ≡ textIs s i (drop k w)
+    unfolding utf8 OctetsEnd
+    is-differ o = sym (is-more (λ _. false) (λ cs. o (utf8 cs)) ∙ given-same false (textAt s e))

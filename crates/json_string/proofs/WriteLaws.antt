@@ -6,14 +6,15 @@ use native.Mathlib.Omega.{arith}
 use lib.ListN.{length, take, drop, getD, length-append, take-append-drop, replicate}
 use lib.Seq.{paste, length-paste, take-paste, drop-paste, take-length, drop-drop, length-take-le}
 use borrow.Author.Tests.{le-leb, lt-leb}
+use Rattle.json_grammar.specs.Reader.{Got, bad, got, over}
 use Rattle.json_string.specs.declared.End.{End}
 use Rattle.json_string.specs.declared.End.the-variants.{At, Bad}
-use Rattle.json_string.specs.declared.Scan.the-variants.{Code, Wrong}
-use Rattle.json_string.specs.declared.Resolved.the-variants.{Bytes, Long}
-use Rattle.json_string.specs.Strings.{CharAt, resolved, resolvedTo, Resolves}
+use Rattle.json_string.specs.declared.Scan.the-variants.{Code}
+use Rattle.json_string.specs.declared.Resolved.the-variants.{Bytes, Nothing}
+use Rattle.json_string.specs.Strings.{CharAt, textAt, given, resolved, resolvedTo, resolvedAt, resolvedToAt}
 use Rattle.json_string.specs.Utf8.{octets, utf8}
-use Rattle.json_string.specs.Steps.{Writes}
-use Rattle.json_string.proofs.TextLaws.{name-out, name-quote, name-wrong, name-step}
+use Rattle.json_string.specs.Steps.{Wrote, Writes}
+use Rattle.json_string.proofs.TextLaws.{text-quote, text-step}
 
 -- a buffer of which the first n bytes were written
 pub record Front (old out : List ℕ) (n : ℕ) : Type 0 where
@@ -53,52 +54,64 @@ too-long old out bs n k f l h = omega (arith, length-take-le n out (omega (arith
 
 -- WRITES
 
-pub writes-out : (s : List ℕ) (i : ℕ) (w old new : List ℕ) → length s ≤ i → Writes s i w old new Bad
+pub writes-none : (s : List ℕ) (i : ℕ) (w old new : List ℕ) → textAt s i ≡ bad → Writes s i w old new Bad
 unfolding Writes
-writes-out s i w old new h cs k = name-out s i cs h k
+writes-none s i w old new h = rw h tt
 
 module _ (s : List ℕ) (i : ℕ) (h : i < length s) (old : List ℕ) where
   pub writes-quote : (n : ℕ) (out : List ℕ) → getD s i 0 ≡ 0x22 → Front old out n → Writes s i (take n out) old out (At n)
   unfolding Writes utf8
-  writes-quote n out b f cs k =
-      let z : take n out ++ utf8 cs ≡ take n out = ap (λ (x : List ℕ). take n out ++ utf8 x) (name-quote s i cs h b k) ∙ append-nil (take n out) in
+  writes-quote n out b f =
       let l : length (take n out) ≡ n = length-take-le n out (omega (arith, f .fits, f .same)) in
-      rw z (omega (arith, f .fits), sym l, sym (take-append-drop n out) ∙ ap (λ (r : List ℕ). take n out ++ r) (f .rest))
+      rw (text-quote s i h b, append-nil (take n out)) (omega (arith, f .fits), sym l, sym (take-append-drop n out) ∙ ap (λ (r : List ℕ). take n out ++ r) (f .rest))
 
-  module _ (b : getD s i 0 ≡ 0x22 → ⊥) (w new : List ℕ) where
-    pub writes-wrong : CharAt s i Wrong → Writes s i w old new Bad
+  module _ (b : getD s i 0 ≡ 0x22 → ⊥) (w new : List ℕ) (c e : ℕ) (x : CharAt s i (Code c e)) where
+    -- the string's octets, the first character's apart
+    parted : (cs : List ℕ) → w ++ octets c ++ utf8 cs ≡ w ++ utf8 (c ∷ cs)
+    unfolding utf8
+    parted cs = append-assoc w (octets c) (utf8 cs)
+
+    pub writes-long : length old < length w + length (octets c) → Writes s i w old new Bad
     unfolding Writes
-    writes-wrong x cs k = name-wrong s i cs h b x k
+    writes-long l = rw (text-step s i h b c e x) (go (textAt s e))
+      where
+        go : (g : Got (List ℕ)) → Wrote w old new Bad (over (λ cs. c ∷ cs) g)
+        go (got cs r) = rw (← parted cs, length-append (w ++ octets c) (utf8 cs), length-append w (octets c)) (omega arith)
+        go bad = tt
 
-    module _ (c e : ℕ) (x : CharAt s i (Code c e)) where
-      -- the string's octets, the first character's apart
-      parted : (cs a : List ℕ) → c ∷ a ≡ cs → w ++ octets c ++ utf8 a ≡ w ++ utf8 cs
-      unfolding utf8
-      parted cs a q = append-assoc w (octets c) (utf8 a) ∙ ap (λ (l : List ℕ). w ++ utf8 l) q
-
-      pub writes-long : length old < length w + length (octets c) → Writes s i w old new Bad
-      unfolding Writes
-      writes-long l cs k =
-          let a = name-step s i cs h b c e x k in
-          rw (← parted cs (a .0) (a .1), length-append (w ++ octets c) (utf8 (a .0)), length-append w (octets c)) (omega arith)
-
-      pub writes-more : (r : End) → Writes s e (w ++ octets c) old new r → Writes s i w old new r
-      unfolding Writes
-      writes-more (At n) rest = λ cs k. let a = name-step s i cs h b c e x k in rw (← parted cs (a .0) (a .1)) (rest (a .0) (a .2))
-      writes-more Bad rest = λ cs k. let a = name-step s i cs h b c e x k in rw (← parted cs (a .0) (a .1)) (rest (a .0) (a .2))
+    pub writes-more : (r : End) → Writes s e (w ++ octets c) old new r → Writes s i w old new r
+    unfolding Writes
+    writes-more r rest = rw (text-step s i h b c e x) (go r (textAt s e) rest)
+      where
+        go : (r : End) (g : Got (List ℕ)) → Wrote (w ++ octets c) old new r g → Wrote w old new r (over (λ cs. c ∷ cs) g)
+        go (At n) (got cs t) h = rw (← parted cs) h
+        go (At n) bad h = h
+        go Bad (got cs t) h = rw (← parted cs) h
+        go Bad bad h = h
 
 -- RESOLVED
 
 pub written : (s : List ℕ) (p : ℕ) (w old new : List ℕ) (q q′ : End) → Writes s p w old new q → q ≡ q′ → Writes s p w old new q′
 written s p w old new q q′ h e = subst (λ (x : End). Writes s p w old new x) e h
 
-pub resolves-all : (s : List ℕ) (p : ℕ) (old new : List ℕ) (n : ℕ) → Writes s p [] old new (At n) → Resolves s p old new (Bytes n)
-unfolding Writes Resolves resolved resolvedTo
-resolves-all s p old new n h cs k =
-    let f = h cs k in
-    rw (le-leb (length (utf8 cs)) (length old) (f .0)) (ap Bytes (f .1), f .2 ∙ ap (λ (m : ℕ). utf8 cs ++ drop m old) (f .1))
+pub resolves-all : (s : List ℕ) (p : ℕ) (old new : List ℕ) (n : ℕ) → Writes s p [] old new (At n) → (Bytes n ≡ resolvedAt s p old) × (new ≡ resolvedToAt s p old)
+unfolding Writes resolvedAt resolvedToAt resolved resolvedTo
+resolves-all s p old new n = go (textAt s p)
+  where
+    go : (g : Got (List ℕ)) → Wrote [] old new (At n) g
+        → (Bytes n ≡ given (λ cs. resolved old (utf8 cs)) Nothing g) × (new ≡ given (λ cs. resolvedTo old (utf8 cs)) (replicate (length old) 0) g)
+    go (got cs r) f = rw (le-leb (length (utf8 cs)) (length old) (f .0)) (ap Bytes (f .1), f .2 ∙ ap (λ (m : ℕ). utf8 cs ++ drop m old) (f .1))
+    go bad f = absurd f
 
-pub resolves-long : (s : List ℕ) (p : ℕ) (old mid new : List ℕ) → Writes s p [] old mid Bad → length mid ≡ length old → new ≡ replicate (length mid) 0 → Resolves s p old new Long
-unfolding Writes Resolves resolved resolvedTo
-resolves-long s p old mid new h l e cs k =
-    rw (lt-leb (length (utf8 cs)) (length old) (h cs k)) (refl, e ∙ ap (λ (m : ℕ). replicate m 0) l)
+pub resolves-none : (s : List ℕ) (p : ℕ) (old mid new : List ℕ) → Writes s p [] old mid Bad → length mid ≡ length old → new ≡ replicate (length mid) 0
+    → (Nothing ≡ resolvedAt s p old) × (new ≡ resolvedToAt s p old)
+unfolding Writes resolvedAt resolvedToAt resolved resolvedTo
+resolves-none s p old mid new h l e = go (textAt s p) h
+  where
+    zeros : new ≡ replicate (length old) 0
+    zeros = e ∙ ap (λ (m : ℕ). replicate m 0) l
+
+    go : (g : Got (List ℕ)) → Wrote [] old mid Bad g
+        → (Nothing ≡ given (λ cs. resolved old (utf8 cs)) Nothing g) × (new ≡ given (λ cs. resolvedTo old (utf8 cs)) (replicate (length old) 0) g)
+    go (got cs r) f = rw (lt-leb (length (utf8 cs)) (length old) f) (refl, zeros)
+    go bad f = (refl, zeros)

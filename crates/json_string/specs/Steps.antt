@@ -6,8 +6,8 @@ use Prim.Native.Nat.{ℕ, zero, suc, _+_, _-_, _*_, _≤_, _<_}
 use lib.ListN.{length, drop, take}
 use Rattle.common.specs.Same.{same}
 use Rattle.json_grammar.specs.Bytes.{within}
-use Rattle.json_grammar.specs.Reader.{Got, got, one, char-by, charLead, escape-by, escapeLeadOf}
-use Rattle.json_string.specs.Strings.{Scans, NameAt}
+use Rattle.json_grammar.specs.Reader.{Got, bad, got, one, char-by, charLead, escape-by, escapeLeadOf}
+use Rattle.json_string.specs.Strings.{Scans, textAt}
 use Rattle.json_string.specs.Utf8.{octets, utf8}
 use Rattle.json_string.specs.declared.End.{End}
 use Rattle.json_string.specs.declared.End.the-variants.{At, Bad}
@@ -46,9 +46,14 @@ unfoldable pub OctetsEnd : List ℕ → ℕ → ℕ → End → Type 0
 OctetsEnd w at c (At e) = (at ≤ e) × (e ≤ length w) × ((xs : List ℕ) → same (octets c ++ xs) (drop at w) ≡ same xs (drop e w))
 OctetsEnd w at c Bad = (xs : List ℕ) → same (octets c ++ xs) (drop at w) ≡ false
 
--- after the octets w, those of the string at p were written to the front of a buffer that held old and now holds new; or there is no
--- room for all of them
+-- after the octets w, those of the string that was read were written to the front of a buffer that held old and now holds new; or no
+-- string was read, or there is no room for all of them
+abbrev pub Wrote : List ℕ → List ℕ → List ℕ → End → Got (List ℕ) → Type 0
+Wrote w old new (At n) (got cs r) = (length (w ++ utf8 cs) ≤ length old) × (n ≡ length (w ++ utf8 cs)) × (new ≡ (w ++ utf8 cs) ++ drop n old)
+Wrote w old new (At n) bad = ⊥
+Wrote w old new Bad (got cs r) = length old < length (w ++ utf8 cs)
+Wrote w old new Bad bad = Unit {0}
+
+-- .. of the string at p
 unfoldable pub Writes : List ℕ → ℕ → List ℕ → List ℕ → List ℕ → End → Type 0
-Writes s p w old new (At n) =
-    (cs : List ℕ) → NameAt s p cs → (length (w ++ utf8 cs) ≤ length old) × (n ≡ length (w ++ utf8 cs)) × (new ≡ (w ++ utf8 cs) ++ drop n old)
-Writes s p w old new Bad = (cs : List ℕ) → NameAt s p cs → length old < length (w ++ utf8 cs)
+Writes s p w old new r = Wrote w old new r (textAt s p)

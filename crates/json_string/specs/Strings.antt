@@ -1,6 +1,6 @@
 -- What the public functions' contracts cite: characters and strings at places of a slice.
 use mathlib.Core.Path.{_≡_}
-use mathlib.Core.Bool.{Bool, cond}
+use mathlib.Core.Bool.{Bool, false, cond}
 use mathlib.Core.List.{List, [], _∷_, _++_}
 use Prim.Native.Nat.{ℕ, _+_, _*_, _%_, _≤_}
 use lib.Dec.{leb}
@@ -13,7 +13,7 @@ use Rattle.json_string.specs.declared.End.{End}
 use Rattle.json_string.specs.declared.Scan.{Scan}
 use Rattle.json_string.specs.declared.Scan.the-variants.{Code, Wrong}
 use Rattle.json_string.specs.declared.Resolved.{Resolved}
-use Rattle.json_string.specs.declared.Resolved.the-variants.{Bytes, Long}
+use Rattle.json_string.specs.declared.Resolved.the-variants.{Bytes, Nothing}
 
 -- r is what a reader that starts at `from` gives: a code point and the place after it, or nothing
 abbrev pub Scans : List ℕ → ℕ → Scan → Got ℕ → Type 0
@@ -32,9 +32,23 @@ StringEnds s from r = (n : ℕ) → length (drop from s) ≤ n → Ends s from r
 unfoldable pub NameAt : List ℕ → ℕ → List ℕ → Type 0
 NameAt s p cs = (n : ℕ) × (length (drop p s) ≤ n) × (r : List ℕ) × (readChars n (drop p s) ≡ got cs r)
 
--- r says whether the strings at p and q have the same code points
-unfoldable pub SameText : List ℕ → ℕ → ℕ → Bool → Type 0
-SameText s p q r = (cs ds : List ℕ) → NameAt s p cs → NameAt s q ds → r ≡ same cs ds
+-- the code points of the string whose first character is at p, and the bytes past its closing quotation mark; `bad` where no string stands
+unfoldable pub textAt : List ℕ → ℕ → Got (List ℕ)
+textAt s p = readChars (length (drop p s)) (drop p s)
+
+-- f of what was read; d where nothing was
+abbrev pub given : {A B : Type 0} → (A → B) → B → Got A → B
+given f d (got a r) = f a
+given f d bad = d
+
+-- whether both are strings, and have the same code points
+abbrev pub sameOf : Got (List ℕ) → Got (List ℕ) → Bool
+sameOf (got cs r) k = given (same cs) false k
+sameOf bad k = false
+
+-- whether strings stand at p and at q, and have the same code points
+unfoldable pub sameText : List ℕ → ℕ → ℕ → Bool
+sameText s p q = sameOf (textAt s p) (textAt s q)
 
 -- one more code point in a fingerprint, by a multiplicative hash modulo 2^32
 abbrev pub mix : ℕ → ℕ → ℕ
@@ -44,25 +58,28 @@ unfoldable pub mixAll : ℕ → List ℕ → ℕ
 mixAll h [] = h
 mixAll h (c ∷ cs) = mixAll (mix h c) cs
 
--- r is what mixing the code points of the string at p into h gives
-unfoldable pub Mixed : List ℕ → ℕ → ℕ → ℕ → Type 0
-Mixed s p h r = (cs : List ℕ) → NameAt s p cs → r ≡ mixAll h cs
+-- what mixing the code points of the string at p into h gives; 0 where no string stands
+unfoldable pub mixedAt : List ℕ → ℕ → ℕ → ℕ
+mixedAt s p h = given (mixAll h) 0 (textAt s p)
 
--- r is the fingerprint of the string at p
-abbrev pub Fingerprint : List ℕ → ℕ → ℕ → Type 0
-Fingerprint s p r = Mixed s p 0 r
+-- the fingerprint of the string at p; 0 where no string stands
+abbrev pub fingerprintAt : List ℕ → ℕ → ℕ
+fingerprintAt s p = mixedAt s p 0
 
--- r says whether the string at p, in UTF-8, is the word w
-unfoldable pub TextIs : List ℕ → ℕ → List ℕ → Bool → Type 0
-TextIs s p w r = (cs : List ℕ) → NameAt s p cs → r ≡ same (utf8 cs) w
+-- whether a string stands at p that, in UTF-8, is the word w
+unfoldable pub textIs : List ℕ → ℕ → List ℕ → Bool
+textIs s p w = given (λ cs. same (utf8 cs) w) false (textAt s p)
 
 -- the answer, and what the buffer then holds that held old, of resolving to the octets u
 unfoldable pub resolved : List ℕ → List ℕ → Resolved
-resolved old u = cond (leb (length u) (length old)) (Bytes (length u)) Long
+resolved old u = cond (leb (length u) (length old)) (Bytes (length u)) Nothing
 
 unfoldable pub resolvedTo : List ℕ → List ℕ → List ℕ
 resolvedTo old u = cond (leb (length u) (length old)) (u ++ drop (length u) old) (replicate (length old) 0)
 
--- the string at p was resolved into a buffer that held old and now holds new
-unfoldable pub Resolves : List ℕ → ℕ → List ℕ → List ℕ → Resolved → Type 0
-Resolves s p old new r = (cs : List ℕ) → NameAt s p cs → (r ≡ resolved old (utf8 cs)) × (new ≡ resolvedTo old (utf8 cs))
+-- the same of resolving the string at p; nothing, and zeros, where no string stands
+unfoldable pub resolvedAt : List ℕ → ℕ → List ℕ → Resolved
+resolvedAt s p old = given (λ cs. resolved old (utf8 cs)) Nothing (textAt s p)
+
+unfoldable pub resolvedToAt : List ℕ → ℕ → List ℕ → List ℕ
+resolvedToAt s p old = given (λ cs. resolvedTo old (utf8 cs)) (replicate (length old) 0) (textAt s p)

@@ -6,15 +6,15 @@ use Prim.Native.Nat.{ℕ, _+_, _-_, _*_, _/_, _≤_, _<_}
 use native.Mathlib.Omega.{arith}
 use native.Mathlib.Nat.{div-div-eq-div-mul}
 use lib.Dec.{leb}
-use lib.ListN.{length, drop}
+use lib.ListN.{drop}
 use borrow.Author.Tests.{le-leb, lt-leb, leb-true, leb-false}
 use Rattle.json_grammar.specs.Bytes.{within, isDigit, isHex, hexVal, allHex, hex4, isTail, code2, code3, code4, isHigh, isLow, isSurrogate, pairCode}
-use Rattle.json_grammar.specs.Grammar.{Utf8, utf8-1, utf8-2, utf8-E0, utf8-E1, utf8-ED, utf8-EE, utf8-F0, utf8-F1, utf8-F4, codeUtf8, Char, unescaped, short, unicode, surrogates, Short, shortCode, codeOf, Chars, cnil, ccons, codesOf, yieldChars}
+use Rattle.json_grammar.specs.Grammar.{Utf8, utf8-1, utf8-2, utf8-E0, utf8-E1, utf8-ED, utf8-EE, utf8-F0, utf8-F1, utf8-F4, codeUtf8, Char, unescaped, short, unicode, surrogates, Short, shortCode, codeOf, Chars, cnil, ccons, codesOf}
 use Rattle.json_grammar.specs.Grammar.{quote, reverse-solidus, solidus, backspace, form-feed, line-feed, carriage-return, tab}
-use Rattle.json_grammar.specs.Reader.{Got, bad, got, readChar, readChars}
+use Rattle.json_grammar.specs.Reader.{Got, bad, got, readChar}
 use Rattle.json_grammar.specs.ByteLaws.{within-true, within-is, and-both, or-none, by-test}
 use Rattle.json_grammar.specs.ReaderLaws.{no-bad}
-use Rattle.json_grammar.specs.CharLaws.{complete-char, char-sound, complete-chars, chars-sound}
+use Rattle.json_grammar.specs.CharLaws.{complete-char, char-sound, chars-read}
 use Rattle.json_string.specs.Strings.{NameAt}
 use Rattle.json_string.specs.Utf8.{tail, octets, utf8, Scalar, low, high, Each, none, more}
 
@@ -173,8 +173,5 @@ char-scalar s c r e =
 pub name-scalar : (s : List ℕ) (p : ℕ) (cs : List ℕ) → NameAt s p cs → Each Scalar cs
 unfolding NameAt
 name-scalar s p cs k =
-    let i = chars-sound (k .0) (drop p s) cs (k .2) (k .3) in
-    let f : length (yieldChars (i .0) (0x22 ∷ k .2)) ≤ k .0 = rw (i .1) at (k .1) in
-    let q : got (codesOf (i .0)) (k .2) ≡ got cs (k .2) = sym (complete-chars (i .0) (k .0) (k .2) f) ∙ sym (ap (readChars (k .0)) (i .1)) ∙ k .3 in
-    let z : codesOf (i .0) ≡ cs = cc in
-    subst (Each Scalar) z (scalar-codes (i .0))
+    let i = chars-read (k .0) (drop p s) cs (k .2) (k .1) (k .3) in
+    subst (Each Scalar) (i .2) (scalar-codes (i .0))

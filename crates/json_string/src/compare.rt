@@ -2,7 +2,7 @@
 ghost use mathlib.Core.Path.{_≡_};
 ghost use Prim.Native.Nat.{_≤_};
 ghost use lib.ListN.{length};
-ghost use Rattle.json_string.specs.Strings.{SameText, TextIs, mix, Fingerprint};
+ghost use Rattle.json_string.specs.Strings.{sameText, textIs, mix, fingerprintAt};
 ghost use Rattle.json_string.specs.Steps.{OctetsEnd};
 use crate::End;
 use crate::Scan;
@@ -11,11 +11,10 @@ use crate::strings::char_at;
 use crate::utf8::octets_of;
 use common::wide;
 
-// Whether the strings at p and q have the same code points. Rules out a prefix taken for the whole, and strings compared as they
-// are written, before their escapes are resolved.
+// Whether strings stand at p and q, and have the same code points. Rules out a prefix taken for the whole, and strings compared as
+// they are written, before their escapes are resolved.
 pub fn same_text(s: &[u8], p: usize, q: usize) -> bool
-    requires { ⌜ (p ≤ length (now s)) × (q ≤ length (now s)) ⌝ }
-    ensures { λ r. ⌜ SameText (now (s .entry)) p q r ⌝ }
+    ensures { λ r. ⌜ r ≡ sameText (now (s .entry)) p q ⌝ }
 {
     let mut i = p;
     let mut j = q;
@@ -55,11 +54,10 @@ fn mixed(h: u32, c: u32) -> u32
     ((h as u64 * 2654435761 + c as u64) % 4294967296) as u32
 }
 
-// A number that strings with the same code points share, and most others do not. Rules out two numbers for two writings of one
-// character, and a number of the last character alone.
+// A number that strings with the same code points share, and most others do not; 0 where no string stands. Rules out two numbers
+// for two writings of one character, and a number of the last character alone.
 pub fn fingerprint(s: &[u8], p: usize) -> u32
-    requires { ⌜ p ≤ length (now s) ⌝ }
-    ensures { λ r. ⌜ Fingerprint (now (s .entry)) p r ⌝ }
+    ensures { λ r. ⌜ r ≡ fingerprintAt (now (s .entry)) p ⌝ }
 {
     let mut at = p;
     let mut h: u32 = 0;
@@ -82,11 +80,11 @@ pub fn fingerprint(s: &[u8], p: usize) -> u32
     0
 }
 
-// Whether the strings at p and q, whose fingerprints are f and g, have the same code points. Rules out strings with one
-// fingerprint taken for different ones, and a string compared with itself.
+// Whether strings stand at p and q, of fingerprints f and g, and have the same code points. Rules out strings with one fingerprint
+// taken for different ones, and a string compared with itself.
 pub fn same_by_fingerprint(s: &[u8], p: usize, q: usize, f: u32, g: u32) -> bool
-    requires { ⌜ (p ≤ length (now s)) × (q ≤ length (now s)) × Fingerprint (now s) p f × Fingerprint (now s) q g ⌝ }
-    ensures { λ r. ⌜ SameText (now (s .entry)) p q r ⌝ }
+    requires { ⌜ (f ≡ fingerprintAt (now s) p) × (g ≡ fingerprintAt (now s) q) ⌝ }
+    ensures { λ r. ⌜ r ≡ sameText (now (s .entry)) p q ⌝ }
 {
     if f == g {
         return same_text(s, p, q);
@@ -115,11 +113,10 @@ fn octets_end(w: &[u8], at: usize, c: u32) -> End
     End::At(at + n)
 }
 
-// Whether the string at p, in UTF-8, is exactly `word`. Rules out a prefix of the word taken for the whole, and every character
-// looked for at the word's start.
+// Whether a string stands at p that, in UTF-8, is exactly `word`. Rules out a prefix of the word taken for the whole, every character
+// looked for at the word's start, and a text that breaks off taken for the word.
 pub fn text_is(s: &[u8], p: usize, word: &[u8]) -> bool
-    requires { ⌜ p ≤ length (now s) ⌝ }
-    ensures { λ r. ⌜ TextIs (now (s .entry)) p (now (word .entry)) r ⌝ }
+    ensures { λ r. ⌜ r ≡ textIs (now (s .entry)) p (now (word .entry)) ⌝ }
 {
     let mut i = p;
     let mut k = 0;
@@ -136,5 +133,5 @@ pub fn text_is(s: &[u8], p: usize, word: &[u8]) -> bool
         i = next;
         k = e;
     }
-    false
+    false // no closing quotation mark
 }

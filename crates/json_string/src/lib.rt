@@ -25,8 +25,8 @@ pub enum Scan {
     Wrong,
 }
 
-// The answer of resolving a string: how many bytes were written, or that the buffer has no room for them.
+// The answer of resolving a string: how many bytes were written, or nothing, where no string stands or the buffer has no room for it.
 pub enum Resolved {
     Bytes(usize),
-    Long,
+    Nothing,
 }

@@ -1,8 +1,7 @@
 // A string's value as UTF-8.
+ghost use mathlib.Core.Path.{_≡_};
 ghost use mathlib.Core.List.{[]};
-ghost use Prim.Native.Nat.{_≤_};
-ghost use lib.ListN.{length};
-ghost use Rattle.json_string.specs.Strings.{Resolves};
+ghost use Rattle.json_string.specs.Strings.{resolvedAt, resolvedToAt};
 ghost use Rattle.json_string.specs.Steps.{Writes};
 use crate::End;
 use crate::Resolved;
@@ -12,9 +11,9 @@ use crate::utf8::octets_of;
 use common::copy_at;
 use common::zero;
 
-// Writes the octets of the string at p to the front of `out`, and answers how many they are, if it has room for them.
+// Writes the octets of the string at p to the front of `out`, and answers how many they are, if a string stands there and `out` has
+// room for it.
 fn write(s: &[u8], p: usize, out: &mut [u8]) -> End
-    requires { ⌜ p ≤ length (now s) ⌝ }
     ensures { λ r. ⌜ Writes (now (s .entry)) p [] (now (out .entry)) (now (out .exit)) r ⌝ }
 {
     let mut i = p;
@@ -36,20 +35,20 @@ fn write(s: &[u8], p: usize, out: &mut [u8]) -> End
         n += count;
         i = next;
     }
-    End::Bad
+    End::Bad // no closing quotation mark
 }
 
-// Writes the string at p, in UTF-8, to the front of `out`, or clears `out` where it has no room for all of it. Rules out octets
-// cut off at the buffer's end, and characters counted for octets.
+// Writes the string at p, in UTF-8, to the front of `out`, or clears `out` where it has no room for all of it or no string stands
+// at p. Rules out octets cut off at the buffer's end, characters counted for octets, and octets of a text that breaks off.
 pub fn resolve(s: &[u8], p: usize, out: &mut [u8]) -> Resolved
-    requires { ⌜ p ≤ length (now s) ⌝ }
-    ensures { λ r. ⌜ Resolves (now (s .entry)) p (now (out .entry)) (now (out .exit)) r ⌝ }
+    ensures { λ r.
+        ⌜ (r ≡ resolvedAt (now (s .entry)) p (now (out .entry))) × (now (out .exit) ≡ resolvedToAt (now (s .entry)) p (now (out .entry))) ⌝ }
 {
     match write(s, p, out) {
         End::At(n) => Resolved::Bytes(n),
         End::Bad => {
             zero(out);
-            Resolved::Long
+            Resolved::Nothing
         }
     }
 }

@@ -5,10 +5,9 @@ use Rattle.json.specs.Members.{FirstElement}
 use Rattle.json_string.specs.declared.End.the-variants.{At}
 use Rattle.common.specs.Ascii.{ascii}
 use Rattle.jose_rules.specs.Names.{crit, fmt}
-use Rattle.jose.proofs.WordLaws.{name-within}
 use Rattle.jose.proofs.SlotLaws.{stands-as}
 use Rattle.jose.proofs.KindLaws.{first-as}
-use Rattle.jose.proofs.CriticalLaws.{Strings, strings-at, lists-absent, lists-empty, first-string, lists-other, lists-more, lists-one}
+use Rattle.jose.proofs.CriticalLaws.{Strings, strings-at, lists-absent, lists-empty, lists-other, lists-more, lists-one}
 use borrow.Author.Needs.{needs}
 use native.Mathlib.Omega.{arith}
 use Rattle.jose.proofs.critical.lists_format.Statement.{statement}
@@ -51,7 +50,7 @@ slice-aggregate-text-is : tie.Need-slice-aggregate-text-is
 slice-aggregate-text-is c = search needs
 
 text-is-requires : tie.Need-text-is-requires
-text-is-requires c κs = name-within _ _ _ (first-string (array (c .before .before .before .before .before .before .before)) (first (c .before .before .before)) (c .before .before .item-at .ensures) .at)
+text-is-requires c κs = tt
 
 enum-told-3 : tie.Need-enum-told-3
 enum-told-3 c = search needs

@@ -1,6 +1,5 @@
 -- `named_key`: the string is resolved into room for the longest id; what has no room there is no id.
 use mathlib.Core.Path.{refl}
-use Rattle.jose.proofs.WordLaws.{name-within}
 use Rattle.jose.proofs.KeyLaws.{resolved-within, named-found, named-long}
 use borrow.Author.Needs.{needs}
 use Rattle.jose.proofs.keys.named_key.Statement.{statement}
@@ -10,7 +9,7 @@ slice-aggregate-resolve : tie.Need-slice-aggregate-resolve
 slice-aggregate-resolve c = search needs
 
 resolve-requires : tie.Need-resolve-requires
-resolve-requires c κs = name-within _ _ _ (c .before .before .before .pre .1 .1)
+resolve-requires c κs = tt
 
 enum-known-n : tie.Need-enum-known-n
 enum-known-n c = search needs

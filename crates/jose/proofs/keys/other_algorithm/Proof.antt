@@ -5,8 +5,7 @@ use Rattle.jose.specs.declared.members.Slot.the-variants.{Is}
 use Rattle.common.specs.Ascii.{ascii}
 use Rattle.jose_rules.specs.Names.{alg, HS256}
 use Rattle.jose.specs.Slots.{Stands}
-use Rattle.jose.proofs.WordLaws.{name-within}
-use Rattle.jose.proofs.SlotLaws.{stands-as, string-at}
+use Rattle.jose.proofs.SlotLaws.{stands-as}
 use Rattle.jose.proofs.KeyLaws.{algorithm-absent, algorithm-string, algorithm-other}
 use borrow.Author.Needs.{needs}
 use Rattle.jose.proofs.keys.other_algorithm.Statement.{statement}
@@ -31,7 +30,7 @@ slice-aggregate-text-is : tie.Need-slice-aggregate-text-is
 slice-aggregate-text-is c = search needs
 
 text-is-requires : tie.Need-text-is-requires
-text-is-requires c κs = name-within _ _ _ (string-at (there (c .before .before .before)) (sym (c .before .before .is-string .ensures) ∙ c .before .if1 .taken) .2)
+text-is-requires c κs = tt
 
 returns-2 : tie.Need-returns-2
 unfolding ascii HS256

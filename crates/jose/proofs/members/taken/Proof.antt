@@ -14,7 +14,7 @@ add-text-is : tie.Need-add-text-is
 add-text-is c = search needs
 
 text-is-requires : tie.Need-text-is-requires
-text-is-requires c κs = search needs
+text-is-requires c κs = tt
 
 returns-2 : tie.Need-returns-2
 returns-2 c = taken-new _ (c .before .before .text-is .ensures) _ (c .before .before .before .before .there .ensures) (c .before .before .before .if1 .left) (c .before .if2 .taken)

@@ -1,4 +1,5 @@
 -- `block_meets` meets its contract.
+use mathlib.Core.Path.{sym, _∙_}
 use mathlib.Core.Bool.{Bool}
 use Prim.Native.Nat.{_+_, _-_, _≤_, _<_}
 use native.Mathlib.Omega.{arith}
@@ -29,7 +30,7 @@ add-fingerprint : tie.Need-add-fingerprint Inv-loop μ-loop Inv-pairs μ-pairs
 add-fingerprint c = omega arith
 
 fingerprint-requires : tie.Need-fingerprint-requires Inv-loop μ-loop Inv-pairs μ-pairs
-fingerprint-requires c κs = omega (arith, c .pairs .inv .0)
+fingerprint-requires c κs = tt
 
 loop-holds : tie.Need-loop-holds Inv-loop μ-loop Inv-pairs μ-pairs
 loop-holds c = (omega arith, law.without-start _)
@@ -50,7 +51,7 @@ element-copy-out-same-by-fingerprint-2 : tie.Need-element-copy-out-same-by-finge
 element-copy-out-same-by-fingerprint-2 c = omega arith
 
 same-by-fingerprint-requires : tie.Need-same-by-fingerprint-requires Inv-loop μ-loop Inv-pairs μ-pairs
-same-by-fingerprint-requires c κs = let t = c .before .before .loop-test .taken in let m = c .before .before .before .before .before .before .before .pre .1 in (omega (arith, c .before .before .before .before .before .pairs .inv .0), m .places _ t, c .before .before .before .before .fingerprint .ensures, m .fingerprints _ t)
+same-by-fingerprint-requires c κs = let t = c .before .before .loop-test .taken in let m = c .before .before .before .before .before .before .before .pre .1 in (c .before .before .before .before .fingerprint .ensures, m .fingerprints _ t)
 
 add-i : tie.Need-add-i Inv-loop μ-loop Inv-pairs μ-pairs
 add-i c = omega arith
@@ -59,7 +60,7 @@ loop-less : tie.Need-loop-less Inv-loop μ-loop Inv-pairs μ-pairs
 loop-less c = omega arith
 
 loop-again : tie.Need-loop-again Inv-loop μ-loop Inv-pairs μ-pairs
-loop-again c = (omega arith, law.without-next (c .before .before .before .before .before .loop .inv .1) (law.texts _ _ _ (c .if1 .left) (c .before .same-by-fingerprint .ensures)))
+loop-again c = (omega arith, law.without-next (c .before .before .before .before .before .loop .inv .1) (sym (c .before .same-by-fingerprint .ensures) ∙ c .if1 .left))
 
 entry-at-requires : tie.Need-entry-at-requires Inv-loop μ-loop Inv-pairs μ-pairs
 entry-at-requires c κs = omega arith
@@ -80,7 +81,7 @@ returns : tie.Need-returns Inv-loop μ-loop Inv-pairs μ-pairs
 returns c = c .before .before .before .before .before .before .pairs .inv .1 _ (law.meets-last _ (law.without-all (c .before .before .before .before .loop .inv .1) (c .before .before .before .before .loop .inv .0) (c .before .before .before .loop-test .left)) (c .before .before .entry-at .ensures) (c .enum-told .given .1))
 
 returns-2 : tie.Need-returns-2 Inv-loop μ-loop Inv-pairs μ-pairs
-returns-2 c = c .before .before .before .before .before .before .before .pairs .inv .1 _ (law.meets-found _ _ _ _ (c .before .before .before .before .loop-test .taken) (law.texts _ _ _ (c .if1 .taken) (c .before .same-by-fingerprint .ensures)))
+returns-2 c = c .before .before .before .before .before .before .before .pairs .inv .1 _ (law.meets-found _ _ _ _ (c .before .before .before .before .loop-test .taken) (sym (c .before .same-by-fingerprint .ensures) ∙ c .if1 .taken))
 
 pub block-meets-spec : {M : Type 1} → statement M
 block-meets-spec =

@@ -1,6 +1,6 @@
 -- `block_twice` meets its contract.
 use lib.ListN.{length-set}
-use mathlib.Core.Path.{_≡_, refl}
+use mathlib.Core.Path.{_≡_, refl, sym, _∙_}
 use Prim.Native.Nat.{_+_, _-_, _≤_}
 use native.Mathlib.Omega.{arith}
 use lib.ListN.{length}
@@ -40,7 +40,7 @@ add-fingerprint : tie.Need-add-fingerprint Inv-loop μ-loop Inv-pairs μ-pairs
 add-fingerprint c = omega (arith, c .before .pairs .inv .4 .high)
 
 fingerprint-requires : tie.Need-fingerprint-requires Inv-loop μ-loop Inv-pairs μ-pairs
-fingerprint-requires c κs = omega (arith, c .before .pairs .inv .4 .high)
+fingerprint-requires c κs = tt
 
 loop-holds : tie.Need-loop-holds Inv-loop μ-loop Inv-pairs μ-pairs
 loop-holds c = (omega arith, law.without-start _)
@@ -61,7 +61,7 @@ array-read-same-by-fingerprint-2 : tie.Need-array-read-same-by-fingerprint-2 Inv
 array-read-same-by-fingerprint-2 c = omega arith
 
 same-by-fingerprint-requires : tie.Need-same-by-fingerprint-requires Inv-loop μ-loop Inv-pairs μ-pairs
-same-by-fingerprint-requires c κs = let i = c .before .before .before .before .pairs .inv in let t = c .loop-test .taken in (omega (arith, i .4 .high), i .3 .places _ t, c .before .before .fingerprint .ensures, i .3 .fingerprints _ t)
+same-by-fingerprint-requires c κs = let i = c .before .before .before .before .pairs .inv in let t = c .loop-test .taken in (c .before .before .fingerprint .ensures, i .3 .fingerprints _ t)
 
 add-i : tie.Need-add-i Inv-loop μ-loop Inv-pairs μ-pairs
 add-i c = omega arith
@@ -70,7 +70,7 @@ loop-less : tie.Need-loop-less Inv-loop μ-loop Inv-pairs μ-pairs
 loop-less c = omega arith
 
 loop-again : tie.Need-loop-again Inv-loop μ-loop Inv-pairs μ-pairs
-loop-again c = (omega arith, law.without-next (c .before .before .before .loop .inv .1) (law.texts _ _ _ (c .if3 .left) (c .before .same-by-fingerprint .ensures)))
+loop-again c = (omega arith, law.without-next (c .before .before .before .loop .inv .1) (sym (c .before .same-by-fingerprint .ensures) ∙ c .if3 .left))
 
 entry-at-requires : tie.Need-entry-at-requires Inv-loop μ-loop Inv-pairs μ-pairs
 entry-at-requires c κs = omega arith
@@ -105,7 +105,7 @@ pairs-again c =
       omega arith,
       simp length-set (i .1),
       simp length-set (i .2),
-      law.fingerprinted-next (i .3) (omega (arith, i .4 .high)) _ (c .before .before .before .before .before .before .fingerprint .ensures) (omega (arith, i .1)) (omega (arith, i .2)),
+      law.fingerprinted-next (i .3) _ _ (c .before .before .before .before .before .before .fingerprint .ensures) (omega (arith, i .1)) (omega (arith, i .2)),
       law.filling-next _ (i .4) (law.without-all (c .before .before .before .before .before .loop .inv .1) (c .before .before .before .before .before .loop .inv .0) (c .before .before .before .before .loop-test .left)) (c .before .before .before .entry-at .ensures) (c .before .next .given .1) (omega (arith, i .1)),
     )
 
@@ -116,7 +116,7 @@ returns-3 : tie.Need-returns-3 Inv-loop μ-loop Inv-pairs μ-pairs
 returns-3 c = law.filling-last _ (c .before .before .before .before .before .before .before .pairs .inv .4) (law.without-all (c .before .before .before .before .loop .inv .1) (c .before .before .before .before .loop .inv .0) (c .before .before .before .loop-test .left)) (c .before .before .entry-at .ensures) (c .enum-told .given .1)
 
 returns-4 : tie.Need-returns-4 Inv-loop μ-loop Inv-pairs μ-pairs
-returns-4 c = law.filling-found _ (c .before .before .before .before .before .before .pairs .inv .4) _ (c .before .before .loop-test .taken) (law.texts _ _ _ (c .if3 .taken) (c .before .same-by-fingerprint .ensures))
+returns-4 c = law.filling-found _ (c .before .before .before .before .before .before .pairs .inv .4) _ (c .before .before .loop-test .taken) (sym (c .before .same-by-fingerprint .ensures) ∙ c .if3 .taken)
 
 pub block-twice-spec : {M : Type 1} → statement M
 block-twice-spec =

@@ -1,23 +1,23 @@
--- `fingerprint` meets its contract. The loop's invariant: what is right for the rest of the string, with what is mixed so far, is right for the whole.
-use mathlib.Core.Path.{sym, _∙_}
+-- `fingerprint` meets its contract. The loop's invariant: mixing the rest of the string into what is mixed so far gives the fingerprint.
+use mathlib.Core.Path.{_≡_, refl, sym, _∙_}
 use native.Mathlib.Omega.{arith}
-use Prim.Native.Nat.{ℕ, _≤_, _-_}
+use Prim.Native.Nat.{_-_}
 use lib.ListN.{length}
 use borrow.Author.Needs.{needs}
-use Rattle.json_string.specs.Strings.{Mixed}
+use Rattle.json_string.specs.Strings.{mixedAt, fingerprintAt}
 use Rattle.json_string.proofs.CharLaws.{scanned, char-after}
-use Rattle.json_string.proofs.TextLaws.{mixed-out, mixed-quote, mixed-wrong, mixed-step, mixed-plain}
+use Rattle.json_string.proofs.TextLaws.{text-out, text-wrong, mixed-none, mixed-quote, mixed-step, mixed-plain}
 use Rattle.json_string.proofs.compare.fingerprint.Statement.{statement}
 use Rattle.json_string.proofs.compare.fingerprint.Tie as tie
 
 abbrev Inv-loop : tie.InvT-loop
-Inv-loop s p at₀ h₀ at h = (at ≤ length s) × ((r : ℕ) → Mixed s at h r → Mixed s p 0 r)
+Inv-loop s p at₀ h₀ at h = mixedAt s at h ≡ fingerprintAt s p
 
 abbrev μ-loop : tie.MeasureT-loop
 μ-loop s p at₀ h₀ at h = length s - at
 
 loop-holds : tie.Need-loop-holds Inv-loop μ-loop
-loop-holds c = (omega arith, λ r h. h)
+loop-holds c = refl
 
 shared-slice-read-b : tie.Need-shared-slice-read-b Inv-loop μ-loop
 shared-slice-read-b c = omega arith
@@ -38,10 +38,10 @@ loop-less : tie.Need-loop-less Inv-loop μ-loop
 loop-less c = omega arith
 
 loop-again : tie.Need-loop-again Inv-loop μ-loop
-loop-again c = (omega arith, λ r h. c .before .before .before .before .before .before .loop .inv .1 r (mixed-plain _ _ _ (c .before .before .before .before .before .loop-test .taken) _ _ r (sym (c .before .before .before .is-unescaped1 .ensures) ∙ c .before .before .if1 .taken) (c .before .wide .ensures .0) (c .mixed .ensures) h))
+loop-again c = mixed-plain _ _ _ (c .before .before .before .before .before .loop-test .taken) _ _ (sym (c .before .before .before .is-unescaped1 .ensures) ∙ c .before .before .if1 .taken) (c .before .wide .ensures .0) (c .mixed .ensures) ∙ c .before .before .before .before .before .before .loop .inv
 
 returns : tie.Need-returns Inv-loop μ-loop
-returns c = c .before .before .before .before .before .loop .inv .1 _ (mixed-quote _ _ _ (c .before .before .before .before .loop-test .taken) (c .if2 .taken))
+returns c = mixed-quote _ _ _ (c .before .before .before .before .loop-test .taken) (c .if2 .taken) ∙ c .before .before .before .before .before .loop .inv
 
 char-at-requires : tie.Need-char-at-requires Inv-loop μ-loop
 char-at-requires c κs = c .before .before .before .before .loop-test .taken
@@ -53,7 +53,7 @@ enum-told : tie.Need-enum-told Inv-loop μ-loop
 enum-told c = search needs
 
 returns-2 : tie.Need-returns-2 Inv-loop μ-loop
-returns-2 c = c .before .before .before .before .before .before .before .before .loop .inv .1 _ (mixed-wrong _ _ _ (c .before .before .before .before .before .before .before .loop-test .taken) (c .before .before .before .if2 .left) _ (scanned _ _ _ _ (c .before .before .char-at .ensures) (c .enum-told .given .1)))
+returns-2 c = mixed-none _ _ _ (text-wrong _ _ (c .before .before .before .before .before .before .before .loop-test .taken) (c .before .before .before .if2 .left) (scanned _ _ _ _ (c .before .before .char-at .ensures) (c .enum-told .given .1))) ∙ c .before .before .before .before .before .before .before .before .loop .inv
 
 mixed-requires-2 : tie.Need-mixed-requires-2 Inv-loop μ-loop
 mixed-requires-2 c κs = tt
@@ -62,10 +62,10 @@ loop-less-2 : tie.Need-loop-less-2 Inv-loop μ-loop
 loop-less-2 c = omega (arith, c .before .before .before .before .before .before .before .before .before .loop-test .taken, char-after _ _ _ _ (scanned _ _ _ _ (c .before .before .before .before .char-at .ensures) (c .before .before .c .given .1)))
 
 loop-again-2 : tie.Need-loop-again-2 Inv-loop μ-loop
-loop-again-2 c = let x = scanned _ _ _ _ (c .before .before .before .before .char-at .ensures) (c .before .before .c .given .1) in (char-after _ _ _ _ x .1, λ r h. c .before .before .before .before .before .before .before .before .before .before .loop .inv .1 r (mixed-step _ _ _ (c .before .before .before .before .before .before .before .before .before .loop-test .taken) (c .before .before .before .before .before .if2 .left) _ _ _ r x (c .mixed2 .ensures) h))
+loop-again-2 c = let x = scanned _ _ _ _ (c .before .before .before .before .char-at .ensures) (c .before .before .c .given .1) in mixed-step _ _ _ (c .before .before .before .before .before .before .before .before .before .loop-test .taken) (c .before .before .before .before .before .if2 .left) _ _ _ x (c .mixed2 .ensures) ∙ c .before .before .before .before .before .before .before .before .before .before .loop .inv
 
 returns-3 : tie.Need-returns-3 Inv-loop μ-loop
-returns-3 c = c .before .loop .inv .1 _ (mixed-out _ _ _ _ (c .loop-test .left))
+returns-3 c = mixed-none _ _ _ (text-out _ _ (c .loop-test .left)) ∙ c .before .loop .inv
 
 pub fingerprint-spec : {M : Type 1} → statement M
 fingerprint-spec =

@@ -1,23 +1,23 @@
--- `same_text` meets its contract. The loop's invariant: what is right for the rests of both strings is right for the strings.
+-- `same_text` meets its contract. The loop's invariant: the rests of both strings compare as the strings do.
 use native.Mathlib.Omega.{arith}
-use Prim.Native.Nat.{_≤_, _-_}
+use Prim.Native.Nat.{_-_}
 use lib.ListN.{length}
-use mathlib.Core.Bool.{Bool}
+use mathlib.Core.Path.{_≡_, refl, _∙_}
 use borrow.Author.Needs.{needs}
-use Rattle.json_string.specs.Strings.{SameText}
+use Rattle.json_string.specs.Strings.{sameText}
 use Rattle.json_string.proofs.CharLaws.{scanned, char-after}
-use Rattle.json_string.proofs.TextLaws.{same-out-i, same-out-j, same-quote-i, same-quote-j, same-wrong-i, same-wrong-j, same-step, same-differ}
+use Rattle.json_string.proofs.TextLaws.{text-out, text-wrong, same-none-i, same-none-j, same-quote-i, same-quote-j, same-step, same-differ}
 use Rattle.json_string.proofs.compare.same_text.Statement.{statement}
 use Rattle.json_string.proofs.compare.same_text.Tie as tie
 
 abbrev Inv-loop : tie.InvT-loop
-Inv-loop s p q i₀ j₀ i j = (i ≤ length s) × (j ≤ length s) × ((r : Bool) → SameText s i j r → SameText s p q r)
+Inv-loop s p q i₀ j₀ i j = sameText s i j ≡ sameText s p q
 
 abbrev μ-loop : tie.MeasureT-loop
 μ-loop s p q i₀ j₀ i j = length s - i
 
 loop-holds : tie.Need-loop-holds Inv-loop μ-loop
-loop-holds c = (omega arith, omega arith, λ r h. h)
+loop-holds c = refl
 
 shared-slice-read-a : tie.Need-shared-slice-read-a Inv-loop μ-loop
 shared-slice-read-a c = omega arith
@@ -26,10 +26,10 @@ shared-slice-read-b : tie.Need-shared-slice-read-b Inv-loop μ-loop
 shared-slice-read-b c = omega arith
 
 returns : tie.Need-returns Inv-loop μ-loop
-returns c = c .before .before .before .before .before .loop .inv .2 _ (same-quote-i _ _ _ (c .before .before .before .before .loop-test .taken) (c .before .before .before .if1 .taken) (c .if2 .taken))
+returns c = same-quote-i _ _ _ (c .before .before .before .before .loop-test .taken) (c .before .before .before .if1 .taken) (c .if2 .taken) ∙ c .before .before .before .before .before .loop .inv
 
 returns-2 : tie.Need-returns-2 Inv-loop μ-loop
-returns-2 c = c .before .before .before .before .before .before .loop .inv .2 _ (same-quote-j _ _ _ (c .before .before .before .before .before .loop-test .taken) (c .before .before .before .before .if1 .taken) (c .before .if2 .left) (c .if3 .taken))
+returns-2 c = same-quote-j _ _ _ (c .before .before .before .before .before .loop-test .taken) (c .before .before .before .before .if1 .taken) (c .before .if2 .left) (c .if3 .taken) ∙ c .before .before .before .before .before .before .loop .inv
 
 char-at-requires : tie.Need-char-at-requires Inv-loop μ-loop
 char-at-requires c κs = omega arith
@@ -43,7 +43,7 @@ enum-told c = search needs
 returns-3 : tie.Need-returns-3 Inv-loop μ-loop
 returns-3 c =
     let e = c .before .before .before in
-    e .before .before .before .before .before .before .loop .inv .2 _ (same-wrong-i _ _ _ (e .before .before .before .before .before .loop-test .taken) (e .before .before .before .before .if1 .taken) (e .before .if2 .left) (scanned _ _ _ _ (c .before .before .char-at .ensures) (c .enum-told .given .1)))
+    same-none-i _ _ _ (text-wrong _ _ (e .before .before .before .before .before .loop-test .taken) (e .before .if2 .left) (scanned _ _ _ _ (c .before .before .char-at .ensures) (c .enum-told .given .1))) ∙ e .before .before .before .before .before .before .loop .inv
 
 char-at-requires-2 : tie.Need-char-at-requires-2 Inv-loop μ-loop
 char-at-requires-2 c κs = omega arith
@@ -57,7 +57,7 @@ enum-told-2 c = search needs
 returns-4 : tie.Need-returns-4 Inv-loop μ-loop
 returns-4 c =
     let e = c .before .before .before .before .before .before .before in
-    e .before .before .before .before .before .before .loop .inv .2 _ (same-wrong-j _ _ _ (e .before .before .before .before .before .loop-test .taken) (e .before .before .before .before .if1 .taken) (e .before .if2 .left) (e .if3 .left) (scanned _ _ _ _ (c .before .before .char-at2 .ensures) (c .enum-told2 .given .1)))
+    same-none-j _ _ _ (text-wrong _ _ (e .before .before .before .before .if1 .taken) (e .if3 .left) (scanned _ _ _ _ (c .before .before .char-at2 .ensures) (c .enum-told2 .given .1))) ∙ e .before .before .before .before .before .before .loop .inv
 
 loop-less : tie.Need-loop-less Inv-loop μ-loop
 loop-less c = omega (arith, c .before .before .before .before .before .before .before .before .before .before .before .before .before .before .loop-test .taken, char-after _ _ _ _ (scanned _ _ _ _ (c .before .before .before .before .before .before .before .before .char-at .ensures) (c .before .before .before .before .before .before .x .given .1)))
@@ -67,18 +67,18 @@ loop-again c =
     let e = c .before .before .before .before .before .before .before .before .before in
     let x = scanned _ _ _ _ (c .before .before .before .before .before .before .before .before .char-at .ensures) (c .before .before .before .before .before .before .x .given .1) in
     let y = scanned _ _ _ _ (c .before .before .before .before .char-at2 .ensures) (c .before .before .y .given .1) in
-    (char-after _ _ _ _ x .1, char-after _ _ _ _ y .1, λ r h. e .before .before .before .before .before .before .loop .inv .2 r (same-step _ _ _ (e .before .before .before .before .before .loop-test .taken) (e .before .before .before .before .if1 .taken) (e .before .if2 .left) (e .if3 .left) _ _ _ _ x y r (c .if4 .taken) h))
+    same-step _ _ _ (e .before .before .before .before .before .loop-test .taken) (e .before .before .before .before .if1 .taken) (e .before .if2 .left) (e .if3 .left) _ _ _ _ x y (c .if4 .taken) ∙ e .before .before .before .before .before .before .loop .inv
 
 returns-5 : tie.Need-returns-5 Inv-loop μ-loop
 returns-5 c =
     let e = c .before .before .before .before .before .before .before .before .before in
-    e .before .before .before .before .before .before .loop .inv .2 _ (same-differ _ _ _ (e .before .before .before .before .before .loop-test .taken) (e .before .before .before .before .if1 .taken) (e .before .if2 .left) (e .if3 .left) _ _ _ _ (scanned _ _ _ _ (c .before .before .before .before .before .before .before .before .char-at .ensures) (c .before .before .before .before .before .before .x .given .1)) (scanned _ _ _ _ (c .before .before .before .before .char-at2 .ensures) (c .before .before .y .given .1)) (c .if4 .left))
+    same-differ _ _ _ (e .before .before .before .before .before .loop-test .taken) (e .before .before .before .before .if1 .taken) (e .before .if2 .left) (e .if3 .left) _ _ _ _ (scanned _ _ _ _ (c .before .before .before .before .before .before .before .before .char-at .ensures) (c .before .before .before .before .before .before .x .given .1)) (scanned _ _ _ _ (c .before .before .before .before .char-at2 .ensures) (c .before .before .y .given .1)) (c .if4 .left) ∙ e .before .before .before .before .before .before .loop .inv
 
 returns-6 : tie.Need-returns-6 Inv-loop μ-loop
-returns-6 c = c .before .before .loop .inv .2 _ (same-out-j _ _ _ (c .if1 .left))
+returns-6 c = same-none-j _ _ _ (text-out _ _ (c .if1 .left)) ∙ c .before .before .loop .inv
 
 returns-7 : tie.Need-returns-7 Inv-loop μ-loop
-returns-7 c = c .before .loop .inv .2 _ (same-out-i _ _ _ (c .loop-test .left))
+returns-7 c = same-none-i _ _ _ (text-out _ _ (c .loop-test .left)) ∙ c .before .loop .inv
 
 pub same-text-spec : {M : Type 1} → statement M
 same-text-spec =

@@ -1,29 +1,29 @@
--- `text_is` meets its contract. The loop's invariant: what is right for the rests of the string and of the word is right for both.
+-- `text_is` meets its contract. The loop's invariant: the rests of the string and of the word compare as both do.
 use native.Mathlib.Omega.{arith}
 use Prim.Native.Nat.{_≤_, _-_}
 use lib.ListN.{length, drop}
-use mathlib.Core.Bool.{Bool}
+use mathlib.Core.Path.{_≡_, refl, _∙_}
 use borrow.Author.Needs.{needs}
-use Rattle.json_string.specs.Strings.{TextIs}
+use Rattle.json_string.specs.Strings.{textIs}
 use Rattle.json_string.proofs.CharLaws.{scanned, char-after, char-most}
-use Rattle.json_string.proofs.TextLaws.{word-ended, word-after, is-out, is-quote, is-wrong, is-step, is-differ}
+use Rattle.json_string.proofs.TextLaws.{text-out, text-wrong, word-ended, word-after, is-none, is-quote, is-step, is-differ}
 use Rattle.json_string.proofs.compare.text_is.Statement.{statement}
 use Rattle.json_string.proofs.compare.text_is.Tie as tie
 
 abbrev Inv-loop : tie.InvT-loop
-Inv-loop s p word i₀ k₀ i k = (i ≤ length s) × (k ≤ length word) × ((r : Bool) → TextIs s i (drop k word) r → TextIs s p word r)
+Inv-loop s p word i₀ k₀ i k = (k ≤ length word) × (textIs s i (drop k word) ≡ textIs s p word)
 
 abbrev μ-loop : tie.MeasureT-loop
 μ-loop s p word i₀ k₀ i k = length s - i
 
 loop-holds : tie.Need-loop-holds Inv-loop μ-loop
-loop-holds c = (omega arith, omega arith, λ r h. h)
+loop-holds c = (omega arith, refl)
 
 shared-slice-read-if1 : tie.Need-shared-slice-read-if1 Inv-loop μ-loop
 shared-slice-read-if1 c = c .before .loop-test .taken
 
 returns : tie.Need-returns Inv-loop μ-loop
-returns c = c .before .before .before .loop .inv .2 _ (is-quote _ _ _ _ (c .before .before .loop-test .taken) (c .if1 .taken) (c .before .before .before .loop .inv .1))
+returns c = is-quote _ _ _ _ (c .before .before .loop-test .taken) (c .if1 .taken) (c .before .before .before .loop .inv .0) ∙ c .before .before .before .loop .inv .1
 
 char-at-requires : tie.Need-char-at-requires Inv-loop μ-loop
 char-at-requires c κs = c .before .before .loop-test .taken
@@ -35,7 +35,7 @@ enum-told : tie.Need-enum-told Inv-loop μ-loop
 enum-told c = search needs
 
 returns-2 : tie.Need-returns-2 Inv-loop μ-loop
-returns-2 c = c .before .before .before .before .before .before .loop .inv .2 _ (is-wrong _ _ _ (c .before .before .before .before .before .before .loop .k) (c .before .before .before .before .before .loop-test .taken) (c .before .before .before .if1 .left) (scanned _ _ _ _ (c .before .before .char-at .ensures) (c .enum-told .given .1)))
+returns-2 c = is-none _ _ _ (text-wrong _ _ (c .before .before .before .before .before .loop-test .taken) (c .before .before .before .if1 .left) (scanned _ _ _ _ (c .before .before .char-at .ensures) (c .enum-told .given .1))) ∙ c .before .before .before .before .before .before .loop .inv .1
 
 octets-end-requires : tie.Need-octets-end-requires Inv-loop μ-loop
 octets-end-requires c κs = (omega arith, char-most _ _ _ _ (scanned _ _ _ _ (c .before .before .before .char-at .ensures) (c .before .c .given .1)))
@@ -47,7 +47,7 @@ enum-told-2 : tie.Need-enum-told-2 Inv-loop μ-loop
 enum-told-2 c = search needs
 
 returns-3 : tie.Need-returns-3 Inv-loop μ-loop
-returns-3 c = c .before .before .before .before .before .before .before .before .before .before .loop .inv .2 _ (is-differ _ _ _ _ (c .before .before .before .before .before .before .before .before .before .loop-test .taken) (c .before .before .before .before .before .before .before .if1 .left) _ _ (scanned _ _ _ _ (c .before .before .before .before .before .before .char-at .ensures) (c .before .before .before .before .c .given .1)) (word-ended _ _ _ _ _ (c .before .before .octets-end .ensures) (c .enum-told2 .given .1)))
+returns-3 c = is-differ _ _ _ _ (c .before .before .before .before .before .before .before .before .before .loop-test .taken) (c .before .before .before .before .before .before .before .if1 .left) _ _ (scanned _ _ _ _ (c .before .before .before .before .before .before .char-at .ensures) (c .before .before .before .before .c .given .1)) (word-ended _ _ _ _ _ (c .before .before .octets-end .ensures) (c .enum-told2 .given .1)) ∙ c .before .before .before .before .before .before .before .before .before .before .loop .inv .1
 
 loop-less : tie.Need-loop-less Inv-loop μ-loop
 loop-less c = omega (arith, c .before .before .before .before .before .before .before .before .before .before .loop-test .taken, char-after _ _ _ _ (scanned _ _ _ _ (c .before .before .before .before .before .before .before .char-at .ensures) (c .before .before .before .before .before .c .given .1)))
@@ -56,10 +56,10 @@ loop-again : tie.Need-loop-again Inv-loop μ-loop
 loop-again c =
     let x = scanned _ _ _ _ (c .before .before .before .before .before .before .before .char-at .ensures) (c .before .before .before .before .before .c .given .1) in
     let o = word-ended _ _ _ _ _ (c .before .before .before .octets-end .ensures) (c .before .e .given .1) in
-    (char-after _ _ _ _ x .1, word-after _ _ _ _ o, λ r h. c .before .before .before .before .before .before .before .before .before .before .before .loop .inv .2 r (is-step _ _ _ _ (c .before .before .before .before .before .before .before .before .before .before .loop-test .taken) (c .before .before .before .before .before .before .before .before .if1 .left) _ _ x _ r o h))
+    (word-after _ _ _ _ o, is-step _ _ _ _ (c .before .before .before .before .before .before .before .before .before .before .loop-test .taken) (c .before .before .before .before .before .before .before .before .if1 .left) _ _ x _ o ∙ c .before .before .before .before .before .before .before .before .before .before .before .loop .inv .1)
 
 returns-4 : tie.Need-returns-4 Inv-loop μ-loop
-returns-4 c = c .before .loop .inv .2 _ (is-out _ _ _ (c .loop-test .left))
+returns-4 c = is-none _ _ _ (text-out _ _ (c .loop-test .left)) ∙ c .before .loop .inv .1
 
 pub text-is-spec : {M : Type 1} → statement M
 text-is-spec =
