@@ -2,12 +2,13 @@
 use mathlib.Core.Path.{_≡_, refl}
 use mathlib.Core.Bool.{true, false}
 use mathlib.Core.List.{List, [], _∷_, _++_}
-use Prim.Native.Nat.{ℕ, _-_}
-use lib.ListN.{replicate}
+use Prim.Native.Nat.{ℕ, zero, suc, _+_, _-_, _*_, _/_, _%_, _≤_}
+use native.Mathlib.Omega.{arith}
+use lib.ListN.{length, replicate, length-replicate}
 use Rattle.keytable.specs.declared.Found.the-variants.{At, Nothing}
 use Rattle.common.specs.Same.{same}
 use Rattle.keytable.specs.Key.{find, only}
-use Rattle.keytable.specs.Table.{badTable, keys, below, listed}
+use Rattle.keytable.specs.Table.{Wellformed, badTable, keys, below, listed}
 
 -- the first eight bytes, for numbers below 256
 abbrev pub head : ℕ → ℕ → ℕ → List ℕ
@@ -25,6 +26,41 @@ one total e = head 1 1 total ++ (e ++ replicate (total - 20) 65)
 abbrev pub two : ℕ → ℕ → ℕ → ℕ → List ℕ
 two a m b n = head 1 2 69 ++ (entry a m 37 32 1 0 ++ (entry b n 37 32 0 0 ++ ((65 ∷ 66 ∷ 65 ∷ 66 ∷ 67 ∷ []) ++ replicate 32 7)))
 
+-- an entry with numbers of two bytes; HS256 and format 1
+abbrev pub wideEntry : ℕ → ℕ → ℕ → ℕ → List ℕ
+wideEntry a m b n = a / 256 ∷ a % 256 ∷ m / 256 ∷ m % 256 ∷ b / 256 ∷ b % 256 ∷ n / 256 ∷ n % 256 ∷ 1 ∷ 1 ∷ 0 ∷ 0 ∷ []
+
+-- k entries from key i on: the id of key i is the byte at first + i, and the 32 bytes at first are every key's secret
+unfoldable pub entriesFrom : ℕ → ℕ → ℕ → List ℕ
+entriesFrom first i zero = []
+entriesFrom first i (suc k) = wideEntry (first + i) 1 first 32 ++ entriesFrom first (suc i) k
+
+unfoldable pub upFrom : ℕ → ℕ → List ℕ
+upFrom i zero = []
+upFrom i (suc k) = i ∷ upFrom (suc i) k
+
+-- n keys, 32 or more, with the ids 0, 1, .. of one byte each
+abbrev pub many : ℕ → List ℕ
+many n = 0 ∷ 1 ∷ 0 ∷ n ∷ 0 ∷ 0 ∷ (8 + 13 * n) / 256 ∷ (8 + 13 * n) % 256 ∷ (entriesFrom (8 + 12 * n) 0 n ++ upFrom 0 n)
+
+-- no keys, and n bytes in no area
+abbrev pub blank : ℕ → List ℕ
+blank n = 0 ∷ 1 ∷ 0 ∷ 0 ∷ 0 ∷ 0 ∷ (8 + n) / 256 ∷ (8 + n) % 256 ∷ replicate n 0
+
+length-blank : (n : ℕ) → length (blank n) ≡ 8 + n
+length-blank n = omega (arith, length-replicate {A = ℕ} n 0)
+
+blank-good : (n : ℕ) → 8 + n ≤ 8192 → Wellformed (blank n)
+blank-good n h = record {
+  long = omega (arith, length-blank n);
+  short = omega (arith, length-blank n);
+  edition = refl;
+  count = omega arith;
+  total = omega (arith, length-blank n);
+  entries = λ i l. absurd (omega arith);
+  ids = λ j l. absurd (omega arith);
+}
+
 pub record Examples : Type 0 where
   -- the empty table, whole; one byte more belongs to no area; a wrong edition, a count of 1, a total that isn't the lent length
   pub empty : badTable (head 1 0 8) ≡ false
@@ -41,8 +77,10 @@ pub record Examples : Type 0 where
   pub early-id : badTable (one 52 (entry 19 1 20 32 1 0)) ≡ true
   pub early-secret : badTable (one 52 (entry 20 1 19 32 1 0)) ≡ true
   pub no-id : badTable (one 52 (entry 20 0 20 32 1 0)) ≡ true
+  pub id-64 : badTable (one 84 (entry 20 64 20 32 1 0)) ≡ false
   pub id-65 : badTable (one 85 (entry 20 65 20 32 1 0)) ≡ true
   pub secret-31 : badTable (one 52 (entry 20 1 20 31 1 0)) ≡ true
+  pub secret-128 : badTable (one 148 (entry 20 1 20 128 1 0)) ≡ false
   pub secret-129 : badTable (one 149 (entry 20 1 20 129 1 0)) ≡ true
   pub bit-1 : badTable (one 52 (entry 20 1 20 32 2 0)) ≡ true
   pub last-byte : badTable (one 52 (entry 20 1 20 32 1 1)) ≡ true
@@ -53,9 +91,14 @@ pub record Examples : Type 0 where
   pub second : find (65 ∷ 66 ∷ 67 ∷ []) (keys (two 32 2 34 3)) ≡ At 1
   pub neither : find (65 ∷ []) (keys (two 32 2 34 3)) ≡ Nothing
   pub not-only : only (keys (two 32 2 34 3)) ≡ Nothing
+  -- 32 keys, and 33; 8,192 bytes, and 8,193
+  pub keys-32 : badTable (many 32) ≡ false
+  pub keys-33 : badTable (many 33) ≡ true
+  pub bytes-8192 : Wellformed (blank 8184)
+  pub bytes-8193 : Wellformed (blank 8185) → ⊥
 
 pub examples : Examples
-unfolding badTable keys below listed same find only
+unfolding badTable keys below listed same find only entriesFrom upFrom
 examples = record {
   empty = refl;
   no-keys = refl;
@@ -70,8 +113,10 @@ examples = record {
   early-id = refl;
   early-secret = refl;
   no-id = refl;
+  id-64 = refl;
   id-65 = refl;
   secret-31 = refl;
+  secret-128 = refl;
   secret-129 = refl;
   bit-1 = refl;
   last-byte = refl;
@@ -81,4 +126,8 @@ examples = record {
   second = refl;
   neither = refl;
   not-only = refl;
+  keys-32 = refl;
+  keys-33 = refl;
+  bytes-8192 = blank-good 8184 (omega arith);
+  bytes-8193 = λ w. omega (arith, length-blank 8185, w .short);
 }
