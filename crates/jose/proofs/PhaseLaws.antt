@@ -7,7 +7,6 @@ use Prim.Native.Nat.{ℕ, zero, suc}
 use native.Mathlib.Omega.{arith}
 use Rattle.common.specs.First.{Test, first, first-within, first-after}
 use Rattle.json_grammar.specs.Value.{Members}
-use Rattle.json_reader.specs.Contracts.{isText}
 use Rattle.json.specs.Answers.{headerTests, checked}
 use Rattle.keytable.specs.Key.{Key}
 use Rattle.keytable.specs.Table.{badTable, keys}
@@ -51,7 +50,7 @@ module _ (ms : Members) where
 
 module _ (h : List ℕ) (ks : List Key) where
   tests-are : decisionTests h ks ≡ headerTests h ++ knownTests (reading h) ks
-  unfolding headerTests isText
+  unfolding headerTests
   tests-are = refl
 
   -- the first test of a phase that refuses, where the earlier phases don't

@@ -5,12 +5,12 @@ use mathlib.Core.Bool.{false}
 use mathlib.Core.List.{List, [], _∷_, _++_, map}
 use Prim.Native.Nat.{ℕ, _-_, _≤_}
 use Rattle.common.specs.First.{Rule, _on_, NoneOf, condition, numbers}
-use Rattle.json_grammar.specs.Value.{Members, mnil, objectV, twice, LMember, LMembers, named, lnil, lcons}
+use Rattle.json_grammar.specs.Twice.{TwiceNamed}
+use Rattle.json_grammar.specs.Value.{Members, mnil, objectV, LMember, LMembers, named, lnil, lcons}
 use Rattle.json_grammar.specs.Places.{Member, placed}
 use Rattle.json_grammar.specs.Grammar.{Derivation, bytes, readingOf, depthOf, membersOf}
-use Rattle.json_grammar.specs.Sound.{Derived}
 use Rattle.json.specs.Answers.{deepest}
-use Rattle.json.specs.Demand3.{NameTwice}
+use Rattle.json.specs.Promises.{grammarRules}
 use Rattle.keytable.specs.Key.{Key}
 use Rattle.jose_rules.specs.declared.Place.{Place}
 use Rattle.jose_rules.specs.Names.{typ, cty}
@@ -22,18 +22,9 @@ use Rattle.jose_rules.specs.Rules.{known, Choice, Chooses}
 abbrev pub ofReading : List ℕ → (Members → List Rule) → List Rule
 ofReading h rules = map (λ n. n on ((t : Derivation) × (bytes t ≡ h) × condition (rules (readingOf t)) n)) (numbers (rules mnil))
 
--- the grammar's rules
-abbrev pub grammar : List ℕ → List Rule
-grammar h =
-    -- "header isn't derived by the grammar, or nests too deep"
-    7 on (Derived deepest h → ⊥)
-    -- "one object has a name twice"
-    ∷ 8 on NameTwice h
-    ∷ []
-
--- .. and those of the known members
+-- the grammar's rules, and those of the known members
 abbrev pub heading : List ℕ → List Key → List Rule
-heading h ks = grammar h ++ ofReading h (λ ms. known ms ks)
+heading h ks = grammarRules h ++ ofReading h (λ ms. known ms ks)
 
 -- WHAT A HEADER DECIDES
 
@@ -66,7 +57,7 @@ pub record HeaderChooses (h : List ℕ) (ks : List Key) (c : HeaderChoice) : Typ
   pub derivation : Derivation
   pub derives : bytes derivation ≡ h
   pub shallow : depthOf derivation ≤ deepest
-  pub once : twice (objectV (readingOf derivation)) ≡ false
+  pub once : TwiceNamed (objectV (readingOf derivation)) → ⊥
   pub rules : NoneOf (known (readingOf derivation) ks)
   pub chooses : Chooses (readingOf derivation) ks (c .choice)
   pub typ-is : RawText h typ (membersOf derivation) (c .typ)

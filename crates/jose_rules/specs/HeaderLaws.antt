@@ -5,29 +5,29 @@ use mathlib.Core.Bool.{Bool, true, false, cond}
 use mathlib.Core.List.{List, [], _∷_}
 use Prim.Native.Nat.{ℕ, _≤_}
 use Rattle.common.specs.Bytes.{Bytes}
-use Rattle.common.specs.First.{Rule, _on_, Test, NoneOf, condition, Decides, holds, fails, Agree, done, _by_, decides-not, decides-bool, decides-iff, stable, agree-append, _also_, none-left, none-right}
-use Rattle.common.specs.Decided.{when-false, test-false}
+use Rattle.common.specs.First.{Rule, _on_, Test, NoneOf, condition, Decides, holds, fails, Agree, done, _by_, decides-iff, agree-append, _also_, none-left, none-right}
+use Rattle.common.specs.Decided.{when-false}
 use Rattle.common.specs.Same.{same, decides-same}
-use Rattle.json_grammar.specs.Value.{Value, Members, objectV, twice, twiceMembers, among, repeated, names, LMembers, named, lnil, lcons, plainItem, plainMembers}
+use Rattle.json_grammar.specs.Twice.{TwiceNamed}
+use Rattle.json_grammar.specs.Value.{Value, objectV, among, repeated, names, LMembers, named, lnil, lcons, plainItem, plainMembers}
 use Rattle.json_grammar.specs.Places.{placed}
 use Rattle.json_grammar.specs.Grammar.{Derivation, bytes, readingOf, depthOf, membersOf}
 use Rattle.json_grammar.specs.Reader.{read}
 use Rattle.json_grammar.specs.Readings.{plain-of}
 use Rattle.json_grammar.specs.Complete.{complete}
-use Rattle.json_grammar.specs.Sound.{Derived}
-use Rattle.json_grammar.specs.Unique.{one-reading, read-decides}
+use Rattle.json_grammar.specs.Unique.{one-reading}
 use Rattle.json_grammar.specs.Written.{derived-bytes}
-use Rattle.json.specs.Answers.{deepest, membersIn, twiceIn}
-use Rattle.json.specs.Demand3.{NameTwice}
+use Rattle.json.specs.Answers.{deepest, membersIn}
+use Rattle.json.specs.Promises.{grammarRules, derivation, grammar-agree}
 use Rattle.keytable.specs.Key.{Key, Distinct}
 use Rattle.jose_rules.specs.declared.Place.{Place}
 use Rattle.jose_rules.specs.Names.{typ, cty}
 use Rattle.jose_rules.specs.Members.{Has}
 use Rattle.jose_rules.specs.Rules.{known}
 use Rattle.jose_rules.specs.Tests.{knownTests}
-use Rattle.jose_rules.specs.Known.{known-agree, chooses, chooses-one, or-false, decides-among}
-use Rattle.jose_rules.specs.Header.{ofReading, grammar, heading, nameOf, valuePlace, ValueAt, RawText, HeaderChoice, HeaderChooses}
-use Rattle.jose_rules.specs.HeaderTests.{located, reading, grammarTests, headingTests, rawText, headerChoice}
+use Rattle.jose_rules.specs.Known.{known-agree, chooses, chooses-one, or-false, decides-among, unique-names}
+use Rattle.jose_rules.specs.Header.{ofReading, heading, nameOf, valuePlace, ValueAt, RawText, HeaderChoice, HeaderChooses}
+use Rattle.jose_rules.specs.HeaderTests.{located, reading, headingTests, rawText, headerChoice}
 
 -- RULES IN OTHER WORDS: under the same numbers, in the same order, conditions that hold together
 data Alike : List Rule → List Rule → Type 1 where
@@ -65,32 +65,6 @@ module _ {h : List ℕ} (t : Derivation) (derives : bytes t ≡ h) (shallow : de
 
   pub reading-is : reading h ≡ readingOf t
   reading-is = ap plainMembers located-is ∙ plain-of t
-
-  decides-8 : Decides (NameTwice h) (twiceIn (located h))
-  decides-8 =
-      decides-iff (λ e. (t, derives, rw reading-is at e))
-      (λ w. rw (reading-is, one-reading t (w .0) (derives ∙ sym (w .1))) (w .2))
-      (decides-bool (twiceIn (located h)))
-
-pub grammar-agree : (h : List ℕ) → Agree (grammar h) (grammarTests h)
-grammar-agree h =
-    decides-not (read-decides deepest h)
-    by λ d. let t = stable (read-decides deepest h) d in decides-8 (t .0) (t .1) (t .2)
-    by λ _. done
-
--- a header that breaks no rule of the grammar has a derivation within the depth, ..
-derivation : (h : List ℕ) → NoneOf (grammar h) → Derived deepest h
-derivation h n = stable (read-decides deepest h) (n .0)
-
--- .. and no name twice
-once : (h : List ℕ) → NoneOf (grammar h) → (t : Derivation) → bytes t ≡ h → twice (objectV (readingOf t)) ≡ false
-once h n t e = test-false (decides-bool (twice (objectV (readingOf t)))) (λ w. n .1 .0 (t, e, w))
-
--- NAMES
-
-once-names : (ms : Members) → twice (objectV ms) ≡ false → repeated (names ms) ≡ false
-unfolding twice
-once-names ms e = or-false (repeated (names ms)) (twiceMembers ms) e .0
 
 -- RAW TEXTS
 
@@ -131,20 +105,20 @@ raw-one h n (lcons (named f t m v) ms) u p r =
 module _ (h : List ℕ) (ks : List Key) (distinct : Distinct ks) where
   -- each test decides its condition where no earlier one holds
   pub heading-agree : Agree (heading h ks) (headingTests h ks)
-  heading-agree = agree-append (grammar-agree h) (λ n. let t = derivation h n in go (t .0) (t .1) (t .2) (once h n (t .0) (t .1)))
+  heading-agree = agree-append (grammar-agree h) (λ n. let t = derivation h (n .0) in go (t .0) (t .1) (t .2) (λ w. n .1 .0 (t .0, t .1, w)))
     where
-      go : (t : Derivation) → bytes t ≡ h → depthOf t ≤ deepest → twice (objectV (readingOf t)) ≡ false
+      go : (t : Derivation) → bytes t ≡ h → depthOf t ≤ deepest → (TwiceNamed (objectV (readingOf t)) → ⊥)
           → Agree (ofReading h (λ ms. known ms ks)) (knownTests (reading h) ks)
-      go t e d u = agree-alike (alike h ks t e) (rw (reading-is t e d) (known-agree (readingOf t) (once-names (readingOf t) u) ks distinct))
+      go t e d u = agree-alike (alike h ks t e) (rw (reading-is t e d) (known-agree (readingOf t) (unique-names (readingOf t) u) ks distinct))
 
   -- where none holds, what is computed is what the header decides, ..
   pub header-chooses : NoneOf (heading h ks) → HeaderChooses h ks (headerChoice h ks)
   unfolding headerChoice
   header-chooses n =
-      let g = none-left (grammar h) (ofReading h (λ ms. known ms ks)) n in
-      let t = derivation h g in
-      let u = once h g (t .0) (t .1) in
-      let r = none-alike (alike-back (alike h ks (t .0) (t .1))) (none-right (grammar h) (ofReading h (λ ms. known ms ks)) n) in
+      let g = none-left (grammarRules h) (ofReading h (λ ms. known ms ks)) n in
+      let t = derivation h (g .0) in
+      let u : TwiceNamed (objectV (readingOf (t .0))) → ⊥ = λ w. g .1 .0 (t .0, t .1, w) in
+      let r = none-alike (alike-back (alike h ks (t .0) (t .1))) (none-right (grammarRules h) (ofReading h (λ ms. known ms ks)) n) in
       let at = located-is (t .0) (t .1) (t .2) in
       record {
         derivation = t .0;
@@ -152,7 +126,7 @@ module _ (h : List ℕ) (ks : List Key) (distinct : Distinct ks) where
         shallow = t .2;
         once = u;
         rules = r;
-        chooses = rw (reading-is (t .0) (t .1) (t .2)) (chooses (readingOf (t .0)) (once-names _ u) ks distinct r);
+        chooses = rw (reading-is (t .0) (t .1) (t .2)) (chooses (readingOf (t .0)) (unique-names _ u) ks distinct r);
         typ-is = rw at (raw-text h typ (membersOf (t .0)));
         cty-is = rw at (raw-text h cty (membersOf (t .0)));
       }
@@ -162,7 +136,7 @@ module _ (h : List ℕ) (ks : List Key) (distinct : Distinct ks) where
   unfolding headerChoice
   header-chooses-one c w =
       let t = w .derivation in
-      let u = once-names (readingOf t) (w .once) in
+      let u = unique-names (readingOf t) (w .once) in
       let m : repeated (names (plainMembers (membersOf t))) ≡ false = rw (plain-of t) u in
       let i = chooses-one (readingOf t) u ks distinct (w .chooses) in
       let a = raw-one h typ (membersOf t) m (c .typ) (w .typ-is) in
@@ -173,7 +147,7 @@ module _ (h : List ℕ) (ks : List Key) (distinct : Distinct ks) where
 pub header-rules : {h : List ℕ} {ks : List Key} {c : HeaderChoice} → HeaderChooses h ks c → NoneOf (heading h ks)
 header-rules {h} {ks} w =
     (λ n. n (w .derivation, w .derives, w .shallow))
-    also (λ x. when-false (decides-bool _) (w .once) (rw (one-reading (w .derivation) (x .0) (w .derives ∙ sym (x .1))) (x .2)))
+    also (λ x. w .once (rw (one-reading (w .derivation) (x .0) (w .derives ∙ sym (x .1))) (x .2)))
     also none-alike (alike h ks (w .derivation) (w .derives)) (w .rules)
 
 pub header-bytes : {h : List ℕ} {ks : List Key} {c : HeaderChoice} → HeaderChooses h ks c → Bytes h

@@ -1,14 +1,13 @@
 -- The tests of answers 7 to 14, and what a header decides, computed by the reader.
-use mathlib.Core.Bool.{cond, not}
-use mathlib.Core.List.{List, [], _∷_, _++_}
+use mathlib.Core.Bool.{cond}
+use mathlib.Core.List.{List, _++_}
 use Prim.Native.Nat.{ℕ}
-use Rattle.common.specs.First.{Test, _when_}
+use Rattle.common.specs.First.{Test}
 use Rattle.common.specs.Same.{same}
 use Rattle.json_grammar.specs.Value.{Members, LMembers, lnil, lcons, plainMembers}
 use Rattle.json_grammar.specs.Places.{placed}
 use Rattle.json_grammar.specs.Reader.{read}
-use Rattle.json_grammar.specs.Unique.{isGot}
-use Rattle.json.specs.Answers.{deepest, membersIn, twiceIn}
+use Rattle.json.specs.Answers.{deepest, membersIn, grammarTests}
 use Rattle.keytable.specs.Key.{Key}
 use Rattle.jose_rules.specs.declared.Place.{Place}
 use Rattle.jose_rules.specs.Names.{typ, cty}
@@ -21,9 +20,6 @@ located h = membersIn (read deepest h)
 
 abbrev pub reading : List ℕ → Members
 reading h = plainMembers (located h)
-
-abbrev pub grammarTests : List ℕ → List Test
-grammarTests h = 7 when not (isGot (read deepest h)) ∷ 8 when twiceIn (located h) ∷ []
 
 abbrev pub headingTests : List ℕ → List Key → List Test
 headingTests h ks = grammarTests h ++ knownTests (reading h) ks

@@ -10,14 +10,15 @@ use lib.Dec.{eqb}
 use lib.IntN.{ℤ, pos, negsuc, natAbs}
 use lib.Signed.{ltZ, _<ℤ_}
 use lib.ListN.{length}
-use Rattle.common.specs.First.{Decides, holds, fails, Agree, done, _by_, decides-or, decides-not, decides-iff, decides-bool, decides-eq, among, numbers, condition, earlier, NoneOf, first, first-stands, none-stands}
-use Rattle.json_grammar.specs.Value.{Value, Members, objectV, mnil, mcons, twice, twiceMembers, among as amongNames, repeated, names}
+use Rattle.common.specs.First.{Decides, holds, fails, Agree, done, _by_, decides-or, decides-not, decides-iff, decides-eq, among, numbers, condition, earlier, NoneOf, first, first-stands, none-stands}
+use Rattle.json_grammar.specs.Value.{Value, Members, objectV, mnil, mcons, among as amongNames, repeated, names}
+use Rattle.json_grammar.specs.Twice.{ObjectIn, TwiceNamed, decides-repeated}
 use Rattle.json_string.specs.Utf8.{utf8}
 use Rattle.keytable.specs.declared.Found.{Found}
 use Rattle.keytable.specs.declared.Found.the-variants.{At, Nothing}
 use Rattle.keytable.specs.Key.{Key, key, Distinct, Named, find, only, allowsHS256, allowsFormat}
 use Rattle.keytable.specs.KeyLaws.{found, not-found, find-is}
-use Rattle.common.specs.Decided.{when-false, decided, decides-false}
+use Rattle.common.specs.Decided.{when-false, decided, decides-false, test-false}
 use Rattle.common.specs.Same.{same, decides-same}
 use Rattle.jose_rules.specs.Names.{alg, kid, typ, cty, crit, fmt, HS256}
 use Rattle.jose_rules.specs.Members.{Has, Lacks, Kind, string, strings, integer, Says, Wrong, Some}
@@ -97,9 +98,9 @@ only-key ks = go (eqb (length ks) 1) (decides-eq (length ks) 1)
     go false (fails e) = nothing (λ i w. e (w .0))
 
 -- what rule 8 leaves
-pub unique-names : (ms : Members) → twice (objectV ms) ≡ false → repeated (names ms) ≡ false
-unfolding twice
-unique-names ms e = or-false (repeated (names ms)) (twiceMembers ms) e .0
+pub unique-names : (ms : Members) → (TwiceNamed (objectV ms) → ⊥) → repeated (names ms) ≡ false
+unfolding ObjectIn
+unique-names ms e = test-false (decides-repeated (names ms)) (λ r. e (ms, inl refl, r))
 
 module _ (ms : Members) (unique : repeated (names ms) ≡ false) where
   only-said : {A : Type 0} (k : Kind A) (n : List ℕ) → Only (Says k n ms) (said k n ms)
@@ -127,7 +128,7 @@ module _ (ms : Members) (unique : repeated (names ms) ≡ false) where
   decides-10 =
       decides-or
       (decides-some (only-said strings crit) (λ ns.
-      decides-or (decides-empty ns) (decides-or (decides-bool (repeated ns))
+      decides-or (decides-empty ns) (decides-or (decides-repeated ns)
       (decides-or (decides-any (λ n. decides-not (decides-same n fmt)) ns) (decides-any decides-lacks ns)))))
       (decides-some (looked fmt ms unique) (λ v. decides-not (decides-listed fmt)))
 

@@ -13,3 +13,4 @@ pub mod HeaderLaws
 pub mod HeaderExamples
 pub mod Decision
 pub mod DecisionLaws
+pub mod Promises

@@ -1,4 +1,4 @@
--- The known members' names (RFC 7515 section 4.1; `fmt` is the house's) and the one algorithm's, as code points.
+-- The known members' names (RFC 7515 section 4.1; `fmt` is the specification's) and the one algorithm's, as code points.
 use mathlib.Core.List.{List, [], _∷_}
 use Prim.Native.Nat.{ℕ}
 use Rattle.common.specs.Ascii.{ascii}

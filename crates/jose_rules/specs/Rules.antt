@@ -1,14 +1,15 @@
 -- The conditions of answers 9 to 14, over a reading's members and a list of keys, each in the specification's words under its number.
 use mathlib.Core.Path.{_≡_}
 use mathlib.Core.Logic.{_⊎_}
-use mathlib.Core.Bool.{Bool, true, false}
+use mathlib.Core.Bool.{Bool, false}
 use mathlib.Core.List.{List, [], _∷_}
 use Prim.Native.Nat.{ℕ}
 use lib.IntN.{ℤ, pos, natAbs}
 use lib.Signed.{_<ℤ_}
 use lib.ListN.{length}
 use Rattle.common.specs.First.{Rule, _on_, Decides}
-use Rattle.json_grammar.specs.Value.{Value, Members, repeated}
+use Rattle.json_grammar.specs.Value.{Value, Members}
+use Rattle.json_grammar.specs.Twice.{Repeated}
 use Rattle.json_string.specs.Utf8.{utf8}
 use Rattle.keytable.specs.Key.{Key, key, Named, allowsHS256, allowsFormat}
 use Rattle.jose_rules.specs.Names.{alg, kid, typ, cty, crit, fmt, HS256}
@@ -35,7 +36,7 @@ abbrev pub CriticalBroken : Members → Type 0
 CriticalBroken ms =
     ((ns : List (List ℕ)) × Says strings crit ms ns
     -- "`crit` is empty, has a name twice,
-    × ((ns ≡ []) ⊎ (repeated ns ≡ true)
+    × ((ns ≡ []) ⊎ Repeated ns
     -- has a name other than `fmt`, or a name that the top object lacks;
     ⊎ Some (λ n. n ≡ fmt → ⊥) ns ⊎ Some (λ n. Lacks n ms) ns))
     -- or `fmt` is present and `crit` doesn't list it."

@@ -33,12 +33,12 @@ check-long h k = rw (lt-ltb longest (length h) k)
 
 module _ (h : List ℕ) (k : length h ≤ longest) where
   pub check-other : {b : Bool} → b ≡ isText deepest h → b ≡ false → 7 ≡ checked h
-  unfolding checked headerTests
+  unfolding checked headerTests isText
   check-other e f = rw (le-ltb longest (length h) k, sym e ∙ f)
 
   module _ {b t : Bool} (e : b ≡ isText deepest h) (f : b ≡ true) (w : TwiceFrom h 0 deepest t) where
     check-text : checked h ≡ first (8 when t ∷ [])
-    unfolding checked headerTests
+    unfolding checked headerTests isText
     check-text =
         let r = text-read deepest h (sym e ∙ f) in
         let z : twiceIn (membersIn (read deepest h)) ≡ t =

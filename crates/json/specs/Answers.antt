@@ -9,7 +9,7 @@ use Rattle.common.specs.First.{Test, _when_, first}
 use Rattle.json_grammar.specs.Value.{objectV, twice, LMembers, lnil, plainMembers}
 use Rattle.json_grammar.specs.Places.{Kind, stringK, numberK, trueK, falseK, nullK, arrayK, objectK, Found, no-member, found, member}
 use Rattle.json_grammar.specs.Reader.{Got, bad, got, read}
-use Rattle.json_reader.specs.Contracts.{isText}
+use Rattle.json_grammar.specs.Unique.{isGot}
 use Rattle.json.specs.declared.places.Place.{Place}
 use Rattle.json.specs.declared.places.Member.{Member}
 use Rattle.json.specs.declared.places.Member.the-variants.{String, Number, True, False, Null, Array, Object, Refused}
@@ -33,9 +33,12 @@ membersIn (got ms r) = ms
 abbrev pub twiceIn : LMembers → Bool
 twiceIn ms = twice (objectV (plainMembers ms))
 
--- 5: longer than 1,024 bytes; 7: not derived within the depth; 8: one object has a name twice
+-- 7: not derived within the depth; 8: one object has a name twice; and before them 5: longer than 1,024 bytes
+abbrev pub grammarTests : List ℕ → List Test
+grammarTests h = 7 when not (isGot (read deepest h)) ∷ 8 when twiceIn (membersIn (read deepest h)) ∷ []
+
 unfoldable pub headerTests : List ℕ → List Test
-headerTests h = 5 when ltb longest (length h) ∷ 7 when not (isText deepest h) ∷ 8 when twiceIn (membersIn (read deepest h)) ∷ []
+headerTests h = 5 when ltb longest (length h) ∷ grammarTests h
 
 unfoldable pub checked : List ℕ → ℕ
 checked h = first (headerTests h)

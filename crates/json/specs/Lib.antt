@@ -3,5 +3,5 @@ pub mod Members
 pub mod Twice
 pub mod Answers
 pub mod MemberLaws
-pub mod Demand3
+pub mod Promises
 pub mod Rows

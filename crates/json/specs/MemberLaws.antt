@@ -11,7 +11,6 @@ use Rattle.json_grammar.specs.Value.{LMembers, inil, lnil}
 use Rattle.json_grammar.specs.Reader.{Got, bad, got, read}
 use Rattle.json_grammar.specs.Sequences.{members, elements, not-none}
 use Rattle.json_grammar.specs.Unique.{isGot}
-use Rattle.json_reader.specs.Contracts.{isText}
 use Rattle.json.specs.Members.{MembersAt, ElementsAt}
 use Rattle.json.specs.Answers.{longest, deepest, membersIn, twiceIn, headerTests, checked}
 
@@ -23,8 +22,7 @@ pub no-elements : {B : Type 0} {s : List ℕ} {p : ℕ} (d : ℕ) → ElementsAt
 no-elements {s = s} {p = p} d o = not-none elements (o .fuel) d (drop p s) (o .left) (o .reads)
 
 -- what is read, of a text
-pub text-read : (d : ℕ) (h : List ℕ) → isText d h ≡ true → (ms : LMembers) × (x : List ℕ) × (read d h ≡ got ms x)
-unfolding isText
+pub text-read : (d : ℕ) (h : List ℕ) → isGot (read d h) ≡ true → (ms : LMembers) × (x : List ℕ) × (read d h ≡ got ms x)
 text-read d h e = go (read d h) refl e
   where
     go : (g : Got LMembers) → read d h ≡ g → isGot g ≡ true → (ms : LMembers) × (x : List ℕ) × (read d h ≡ got ms x)
@@ -39,4 +37,4 @@ fine-text false false c e = absurd (omega arith)
 
 pub checked-read : (h : List ℕ) → checked h ≡ 0 → (ms : LMembers) × (x : List ℕ) × (read deepest h ≡ got ms x)
 unfolding checked headerTests
-checked-read h e = text-read deepest h (fine-text (ltb longest (length h)) (isText deepest h) (twiceIn (membersIn (read deepest h))) e)
+checked-read h e = text-read deepest h (fine-text (ltb longest (length h)) (isGot (read deepest h)) (twiceIn (membersIn (read deepest h))) e)

@@ -1,4 +1,4 @@
--- Demand 3: the member reader answers by the grammar. Its refusals, when a header is read, and what is shown of a member.
+-- The member reader answers by the grammar: its refusals, when a header is read, and what is shown of a member.
 use mathlib.Core.Path.{_≡_, refl, sym, ap, _∙_, subst}
 use mathlib.Core.Logic.{_↔_, _⊎_, inl, inr, ⊎-elim}
 use mathlib.Core.Bool.{Bool, true, false, not, _||_}
@@ -10,27 +10,27 @@ use lib.ListN.{length}
 use borrow.Author.Tests.{ltb-false, ne-eqb}
 use Rattle.common.specs.Decided.{test-false}
 use Rattle.common.specs.First.{Rule, _on_, Test, _when_, first, among, condition, earlier, NoneOf, Decides, holds, fails, Agree, done, _by_}
-use Rattle.common.specs.First.{first-stands, none-stands, in-range, agree-append, decides-bool, decides-lt, decides-not, decides-iff, stable}
-use Rattle.json_grammar.specs.Value.{Members, mnil, mcons, objectV, twice, LMembers, lnil, lcons, named, plain, plainMembers}
+use Rattle.common.specs.First.{first-stands, none-stands, in-range, agree-append, decides-lt, decides-not, decides-iff, stable}
+use Rattle.json_grammar.specs.Twice.{TwiceNamed, decides-twice}
+use Rattle.json_grammar.specs.Value.{Members, mnil, mcons, objectV, LMembers, lnil, lcons, named, plain, plainMembers}
 use Rattle.json_grammar.specs.Grammar.{Derivation, bytes, readingOf, depthOf, membersOf}
 use Rattle.json_grammar.specs.Places.{Kind, stringK, numberK, trueK, falseK, nullK, arrayK, objectK, Found, no-member, found, member}
 use Rattle.json_grammar.specs.Reader.{Got, got, read}
 use Rattle.json_grammar.specs.Readings.{plain-of}
 use Rattle.json_grammar.specs.Complete.{complete}
 use Rattle.json_grammar.specs.Sound.{Derived}
-use Rattle.json_grammar.specs.Unique.{one-reading, read-decides}
+use Rattle.json_grammar.specs.Unique.{isGot, one-reading, read-decides}
 use Rattle.json_grammar.specs.Shown.{Shows}
 use Rattle.json_grammar.specs.ShownLaws.{shown}
-use Rattle.json_reader.specs.Contracts.{isText}
 use Rattle.json.specs.declared.places.Place.{Place}
 use Rattle.json.specs.declared.places.Member.the-variants.{Refused}
-use Rattle.json.specs.Answers.{longest, deepest, membersIn, twiceIn, headerTests, checked, shownBy, place, answerFor, unlessRefused, memberOf, numberOf, with-kind, valuesOf}
+use Rattle.json.specs.Answers.{longest, deepest, membersIn, twiceIn, grammarTests, headerTests, checked, shownBy, place, answerFor, unlessRefused, memberOf, numberOf, with-kind, valuesOf}
 
 -- THE CONDITIONS
 
 -- 8: h is derived, and one object has a name twice
 abbrev pub NameTwice : List ℕ → Type 0
-NameTwice h = (t : Derivation) × (bytes t ≡ h) × (twice (objectV (readingOf t)) ≡ true)
+NameTwice h = (t : Derivation) × (bytes t ≡ h) × TwiceNamed (objectV (readingOf t))
 
 unfoldable pub count : Members → ℕ
 count mnil = 0
@@ -40,8 +40,18 @@ count (mcons n v ms) = suc (count ms)
 abbrev pub NoMember : List ℕ → ℕ → Type 0
 NoMember h k = (t : Derivation) × (bytes t ≡ h) × (count (readingOf t) ≤ k)
 
+-- the grammar's rules
+abbrev pub grammarRules : List ℕ → List Rule
+grammarRules h =
+    -- "header isn't derived by the grammar, or nests too deep"
+    7 on (Derived deepest h → ⊥)
+    -- "one object has a name twice"
+    ∷ 8 on NameTwice h
+    ∷ []
+
+-- .. after "header longer than 1,024 bytes"
 abbrev pub headerRules : List ℕ → List Rule
-headerRules h = 5 on (longest < length h) ∷ 7 on (Derived deepest h → ⊥) ∷ 8 on NameTwice h ∷ []
+headerRules h = 5 on (longest < length h) ∷ grammarRules h
 
 abbrev pub memberRules : List ℕ → ℕ → List Rule
 memberRules h k = headerRules h ++ (16 on NoMember h k ∷ [])
@@ -59,10 +69,6 @@ memberTests h k = headerTests h ++ (16 when missing (member h k (membersIn (read
 derived-read : (d : ℕ) (h : List ℕ) (t : Derivation) → bytes t ≡ h → depthOf t ≤ d → read d h ≡ got (membersOf t) []
 derived-read d h t p l = ap (read d) (sym p) ∙ complete d t l
 
-text-decides : (d : ℕ) (h : List ℕ) → Decides (Derived d h) (isText d h)
-unfolding isText
-text-decides d h = read-decides d h
-
 past-last : (h : List ℕ) (ms : LMembers) (k : ℕ) → Decides (count (plainMembers ms) ≤ k) (missing (member h k ms))
 unfolding count member plain
 past-last h lnil k = holds (omega arith)
@@ -76,9 +82,9 @@ module _ (h : List ℕ) (t : Derivation) (p : bytes t ≡ h) (l : depthOf t ≤ 
   twice-decides : Decides (NameTwice h) (twiceIn (membersIn (read deepest h)))
   twice-decides =
       decides-iff
-      (λ e. (t, p, ap (λ (ms : Members). twice (objectV ms)) (sym reading-in) ∙ e))
-      (λ u. ap (λ (ms : Members). twice (objectV ms)) (reading-in ∙ one-reading t (u .0) (p ∙ sym (u .1))) ∙ u .2)
-      (decides-bool (twiceIn (membersIn (read deepest h))))
+      (λ e. (t, p, subst (λ (ms : Members). TwiceNamed (objectV ms)) reading-in e))
+      (λ u. subst (λ (ms : Members). TwiceNamed (objectV ms)) (sym (reading-in ∙ one-reading t (u .0) (p ∙ sym (u .1)))) (u .2))
+      (decides-twice (objectV (plainMembers (membersIn (read deepest h)))))
 
   member-decides : (k : ℕ) → Decides (NoMember h k) (missing (member h k (membersIn (read deepest h))))
   member-decides k =
@@ -87,13 +93,19 @@ module _ (h : List ℕ) (t : Derivation) (p : bytes t ≡ h) (l : depthOf t ≤ 
       (λ u. subst (λ (ms : Members). count ms ≤ k) (sym (reading-in ∙ one-reading t (u .0) (p ∙ sym (u .1)))) (u .2))
       (past-last h (membersIn (read deepest h)) k)
 
+-- a header that is not refused by 7 has a derivation within the depth
+pub derivation : (h : List ℕ) → ((Derived deepest h → ⊥) → ⊥) → Derived deepest h
+derivation h n = stable (read-decides deepest h) n
+
+pub grammar-agree : (h : List ℕ) → Agree (grammarRules h) (grammarTests h)
+grammar-agree h = decides-not (read-decides deepest h) by λ n. (let t = derivation h n in twice-decides h (t .0) (t .1) (t .2)) by λ _. done
+
 header-agree : (h : List ℕ) → Agree (headerRules h) (headerTests h)
 unfolding headerTests
-header-agree h = decides-lt longest (length h) by λ _. decides-not (text-decides deepest h) by λ n.
-    (let t = stable (text-decides deepest h) n in twice-decides h (t .0) (t .1) (t .2)) by λ _. done
+header-agree h = decides-lt longest (length h) by λ _. grammar-agree h
 
 member-agree : (h : List ℕ) (k : ℕ) → Agree (memberRules h k) (memberTests h k)
-member-agree h k = agree-append (header-agree h) λ n. (let t = stable (text-decides deepest h) (n .1 .0) in member-decides h (t .0) (t .1) (t .2) k) by λ _. done
+member-agree h k = agree-append (header-agree h) λ n. (let t = derivation h (n .1 .0) in member-decides h (t .0) (t .1) (t .2) k) by λ _. done
 
 -- THE FIRST REFUSAL STANDS
 
@@ -123,7 +135,7 @@ number-is false false false f = answer-number f
 pub member-number : (h : List ℕ) (k : ℕ) → numberOf (memberOf h k) ≡ first (memberTests h k)
 unfolding memberOf checked headerTests
 member-number h k =
-    number-is (ltb longest (length h)) (not (isText deepest h)) (twiceIn (membersIn (read deepest h))) (member h k (membersIn (read deepest h)))
+    number-is (ltb longest (length h)) (not (isGot (read deepest h))) (twiceIn (membersIn (read deepest h))) (member h k (membersIn (read deepest h)))
 
 -- each number is given exactly when its condition holds and no earlier one does, ..
 pub member-first : (h : List ℕ) (k n : ℕ) → among n (5 ∷ 7 ∷ 8 ∷ 16 ∷ []) ≡ true
@@ -165,10 +177,6 @@ either-number : (f : Found) {x : ℕ} → x ≡ first (16 when missing f ∷ [])
 either-number no-member e = inr e
 either-number (found m) e = inl e
 
-is-false : (b : Bool) → (b ≡ true → ⊥) → b ≡ false
-is-false true h = absurd (h refl)
-is-false false h = refl
-
 -- WHAT AN ANSWER SAYS
 
 values-are : (f : Found) → valuesOf (answerFor f) ≡ f
@@ -201,7 +209,7 @@ Read h = (k : ℕ) → (memberNumber h k ≡ 0) ⊎ (memberNumber h k ≡ 16)
 
 -- some derivation of h has depth at most 8 and no name twice in one object
 abbrev pub DerivedOnce : List ℕ → Type 0
-DerivedOnce h = (t : Derivation) × (bytes t ≡ h) × (depthOf t ≤ deepest) × (twice (objectV (readingOf t)) ≡ false)
+DerivedOnce h = (t : Derivation) × (bytes t ≡ h) × (depthOf t ≤ deepest) × (TwiceNamed (objectV (readingOf t)) → ⊥)
 
 -- a refusal of the header is that of every member
 pub refused : (h : List ℕ) (n : ℕ) → checked h ≡ suc n → (k : ℕ) → memberOf h k ≡ Refused (suc n)
@@ -213,7 +221,7 @@ too-long h l k = refused h 4 (header-first h 5 refl .1 (l, tt)) k
 
 -- a header that no rule refuses
 derived-once : (h : List ℕ) → NoneOf (headerRules h) → DerivedOnce h
-derived-once h n = let t = stable (text-decides deepest h) (n .1 .0) in (t .0, t .1, t .2, is-false _ (λ e. n .1 .1 .0 (t .0, t .1, e)))
+derived-once h n = let t = derivation h (n .1 .0) in (t .0, t .1, t .2, λ e. n .1 .1 .0 (t .0, t .1, e))
 
 module _ (h : List ℕ) (l : length h ≤ longest) where
   short : longest < length h → ⊥
@@ -222,20 +230,21 @@ module _ (h : List ℕ) (l : length h ≤ longest) where
   pub underived : (Derived deepest h → ⊥) → (k : ℕ) → memberOf h k ≡ Refused 7
   underived n k = refused h 6 (header-first h 7 refl .1 (n, (short, tt))) k
 
-  pub named-twice : (t : Derivation) → bytes t ≡ h → depthOf t ≤ deepest → twice (objectV (readingOf t)) ≡ true → (k : ℕ) → memberOf h k ≡ Refused 8
+  pub named-twice : (t : Derivation) → bytes t ≡ h → depthOf t ≤ deepest → TwiceNamed (objectV (readingOf t)) → (k : ℕ) → memberOf h k ≡ Refused 8
   named-twice t p q e k = refused h 7 (header-first h 8 refl .1 ((t, p, e), (short, ((λ n. n (t, p, q)), tt)))) k
 
   checked-fine : DerivedOnce h → checked h ≡ 0
-  checked-fine r = header-none h .1 (short, ((λ n. n (r .0, r .1, r .2)), ((λ u. differs u), tt)))
-    where
-      differs : NameTwice h → ⊥
-      differs u =
-          let z = sym (u .2) ∙ ap (λ (ms : Members). twice (objectV ms)) (one-reading (u .0) (r .0) (u .1 ∙ sym (r .1))) ∙ r .3 in
-          let y : _≡_ {A = ℕ} 0 1 = cc in
-          omega arith
+  checked-fine r =
+      header-none h .1 (
+        short,
+        (
+          (λ n. n (r .0, r .1, r .2)),
+          ((λ u. r .3 (subst (λ (ms : Members). TwiceNamed (objectV ms)) (one-reading (u .0) (r .0) (u .1 ∙ sym (r .1))) (u .2))), tt),
+        ),
+      )
 
   -- THE MEMBER SHOWN: kind and places are those of every derivation, and the bytes there resolve to the name and the value in its reading
-  module _ (t : Derivation) (p : bytes t ≡ h) (q : depthOf t ≤ deepest) (e : twice (objectV (readingOf t)) ≡ false) (k : ℕ) where
+  module _ (t : Derivation) (p : bytes t ≡ h) (q : depthOf t ≤ deepest) (e : TwiceNamed (objectV (readingOf t)) → ⊥) (k : ℕ) where
     pub member-is : memberOf h k ≡ answerFor (member h k (membersOf t))
     unfolding memberOf unlessRefused
     member-is =
@@ -263,7 +272,7 @@ module _ (h : List ℕ) (l : length h ≤ longest) where
   )
     where
       fine : (numberOf (memberOf h 0) ≡ 0) ⊎ (numberOf (memberOf h 0) ≡ 16) → checked h ≡ 0
-      fine c = fine-number (ltb longest (length h)) (not (isText deepest h)) (twiceIn (membersIn (read deepest h))) (missing (member h 0 (membersIn (read deepest h))))
+      fine c = fine-number (ltb longest (length h)) (not (isGot (read deepest h))) (twiceIn (membersIn (read deepest h))) (missing (member h 0 (membersIn (read deepest h))))
           (⊎-elim (λ e. inl (sym (member-number h 0) ∙ e)) (λ e. inr (sym (member-number h 0) ∙ e)) c)
 
 -- "If it isn't read, every member asked for gets the same one of 5, 7 and 8."

@@ -10,7 +10,6 @@ use Rattle.json_grammar.specs.Grammar.{Derivation, bytes, readingOf}
 use Rattle.json_grammar.specs.Places.{kindOf, pos, margin, placed, member}
 use Rattle.json_grammar.specs.Reader.{read, readValue, readChars, readChar, charLead, escapeLeadOf, isUnescaped1, pastNumber, word, valueLead, skip}
 use Rattle.json_grammar.specs.Unique.{one-reading}
-use Rattle.json_reader.specs.Contracts.{isText}
 use Rattle.json.specs.declared.places.Member.{Member}
 use Rattle.json.specs.declared.places.Member.the-variants.{Refused, Array}
 use Rattle.json.specs.declared.places.Member.the-variants.{String as Text}
@@ -20,7 +19,7 @@ use Rattle.json.specs.Answers.{headerTests, checked, shownBy, place, ans
 unfoldable pub answers : String → ℕ → Member
 unfolding read readValue readChars readChar charLead escapeLeadOf isUnescaped1 pastNumber word valueLead skip
     within isWs isDigit isDigit19 isE isSign isHex hexVal allHex hex4 isTail code2 code3 code4 isHigh isLow isSurrogate pairCode
-    same among repeated names twice plain kindOf pos margin placed member isText headerTests checked shownBy answerFor unlessRefused memberOf ascii
+    same among repeated names twice plain kindOf pos margin placed member headerTests checked shownBy answerFor unlessRefused memberOf ascii
 answers h k = memberOf (ascii h) k
 
 pub rows :
@@ -32,10 +31,11 @@ pub rows :
     × ((k : ℕ) → answers "{\"alg\":\"HS256\",}" k ≡ Refused 7)
     × ((k : ℕ) → answers "{\"alg\":\"HS256\",\"x\":\"\\uDD1E\"}" k ≡ Refused 7)
     -- white space between brackets: read, and one reading
-    × (answers "{\"alg\":\"HS256\",\"x\":[ ]}" 1 ≡ Array (place 16 17) (place 19 22))
+    × (answers "{\"alg\":\"HS256\",\"x\":[ ]}" 0 ≡ Text (place 2 5) (place 8 13)) × (answers "{\"alg\":\"HS256\",\"x\":[ ]}" 1 ≡ Array (place 16 17) (place 19 22))
+    × ((k : ℕ) → answers "{\"alg\":\"HS256\",\"x\":[ ]}" (suc (suc k)) ≡ Refused 16)
     × ((t u : Derivation) → bytes t ≡ ascii "{\"alg\":\"HS256\",\"x\":[ ]}" → bytes u ≡ ascii "{\"alg\":\"HS256\",\"x\":[ ]}" → readingOf t ≡ readingOf u)
     -- seven arrays nested as a member's value: read; eight: 7
     × (answers "{\"x\":[[[[[[[]]]]]]]}" 0 ≡ Array (place 2 3) (place 5 19))
     × ((k : ℕ) → answers "{\"x\":[[[[[[[[]]]]]]]]}" k ≡ Refused 7)
 unfolding answers
-rows = (refl, λ k. refl, λ k. refl, λ k. refl, λ k. refl, refl, λ t u p q. one-reading t u (p ∙ sym q), refl, λ k. refl)
+rows = (refl, λ k. refl, λ k. refl, λ k. refl, λ k. refl, refl, refl, λ k. refl, λ t u p q. one-reading t u (p ∙ sym q), refl, λ k. refl)

@@ -1,0 +1,72 @@
+-- What `decide` answers, by the rules: the number of the first that holds; where none does, what the header decides.
+-- h: a header; T: a table.
+use mathlib.Core.Path.{_≡_, refl, sym, ap, _∙_}
+use mathlib.Core.Logic.{_↔_}
+use mathlib.Core.Bool.{true}
+use mathlib.Core.List.{List, _∷_}
+use Prim.Native.Nat.{ℕ, zero, suc, _<_}
+use lib.ListN.{length}
+use Rattle.common.specs.First.{Rule, _on_, Test, _when_, first, among, numbers, condition, earlier, NoneOf, Agree, _by_, first-stands, none-stands, decides-lt}
+use Rattle.common.specs.Decided.{test-false}
+use Rattle.json.specs.Answers.{longest}
+use Rattle.keytable.specs.Key.{Distinct}
+use Rattle.keytable.specs.Table.{Wellformed, badTable, keys}
+use Rattle.keytable.specs.TableLaws.{decides-bad}
+use Rattle.keytable.specs.GoodKeys.{keys-distinct}
+use Rattle.jose_rules.specs.declared.Decision.{Decision}
+use Rattle.jose_rules.specs.declared.Decision.the-variants.{Refused, Chosen}
+use Rattle.jose_rules.specs.Header.{heading, HeaderChoice, HeaderChooses}
+use Rattle.jose_rules.specs.HeaderTests.{headerChoice}
+use Rattle.jose_rules.specs.HeaderLaws.{heading-agree, header-chooses-one}
+use Rattle.jose_rules.specs.Decision.{choiceOf, decided, decisionTests, decision}
+
+-- the rules, in their order
+abbrev pub deciding : List ℕ → List ℕ → List Rule
+deciding h T =
+    -- "bad table"
+    2 on (Wellformed T → ⊥)
+    -- "header longer than 1,024 bytes"
+    ∷ 5 on (longest < length h)
+    -- 7 to 14
+    ∷ heading h (keys T)
+
+-- the specification's number of a decision
+abbrev pub answerOf : Decision → ℕ
+answerOf (Refused n) = n
+answerOf (Chosen c) = 0
+
+-- THE TESTS decide them
+
+pub distinct : (T : List ℕ) → ((Wellformed T → ⊥) → ⊥) → Distinct (keys T)
+distinct T w = keys-distinct T (test-false (decides-bad T) w)
+
+abbrev decidingTests : List ℕ → List ℕ → List Test
+decidingTests h T = 2 when badTable T ∷ decisionTests h (keys T)
+
+pub deciding-agree : (h T : List ℕ) → Agree (deciding h T) (decidingTests h T)
+deciding-agree h T = decides-bad T by λ table. decides-lt _ _ by λ _. heading-agree h (keys T) (distinct T table)
+
+decided-number : (n : ℕ) (c : HeaderChoice) → answerOf (decided n c) ≡ n
+decided-number zero c = refl
+decided-number (suc n) c = refl
+
+module _ (h T : List ℕ) where
+  decision-number : answerOf (decision h T) ≡ first (decidingTests h T)
+  unfolding decision
+  decision-number = decided-number (first (decidingTests h T)) (headerChoice h (keys T))
+
+  -- THE ANSWER is n exactly when the condition of n holds and no earlier one does; ..
+  pub decision-first : (n : ℕ) → among n (numbers (deciding h T)) ≡ true
+      → (answerOf (decision h T) ≡ n) ↔ (condition (deciding h T) n × NoneOf (earlier (deciding h T) n))
+  decision-first n e = rw decision-number (first-stands (deciding-agree h T) refl n e)
+
+  -- .. 0 exactly when none holds; ..
+  pub decision-none : (answerOf (decision h T) ≡ 0) ↔ NoneOf (deciding h T)
+  decision-none = rw decision-number (none-stands (deciding-agree h T) refl)
+
+  -- .. and then what is chosen is what the header decides
+  pub decision-chooses : NoneOf (deciding h T) → (c : HeaderChoice) → HeaderChooses h (keys T) c → decision h T ≡ Chosen (choiceOf c)
+  unfolding decision
+  decision-chooses n c w =
+      ap (λ (k : ℕ). decided k (headerChoice h (keys T))) (none-stands (deciding-agree h T) refl .1 n)
+      ∙ ap (λ (x : HeaderChoice). Chosen (choiceOf x)) (sym (header-chooses-one h (keys T) (distinct T (n .0)) c w))
