@@ -25,7 +25,7 @@ use Rattle.jose_rules.specs.Decision.{decisionTests, decisionWith}
 use Rattle.jose_rules.specs.DecisionLaws.{with-refused, with-chosen}
 use Rattle.jws_rules.specs.declared.Verified.{Verified}
 use Rattle.jws_rules.specs.Segments.{periods, front, back}
-use Rattle.jws_rules.specs.Token.{tokenMost, headerOf, payloadOf, signatureOf, covered, secretOf}
+use Rattle.jws_rules.specs.Token.{tokenMost, headerOf, payloadOf, signatureOf, sentInput, secretOf}
 use Rattle.jws_rules.specs.Outcomes.{recordOf}
 use Rattle.jws_rules.specs.Tests.{choiceOf, verifyTests}
 use Rattle.jws.specs.declared.signature.Signature.{Signature}
@@ -128,11 +128,11 @@ module _ (t T : List ℕ) {hb pb : List ℕ} {hr pr : ℕ} {o : Opened} (g : Ope
         let n = d .0 ∙ once-more in
         judged-refusal (next ∙ first-within (headingTests (headerOf t) (keys T)) (macTests t T) (λ z. d .1 (n ∙ z)) ∙ sym n) (d .1) f
 
-    chosen : {c : Choice} {r : Verified} → Chosen c ≡ decisionWith (headerOf t) (keys T) → r ≡ concluded o c (covered t) T
+    chosen : {c : Choice} {r : Verified} → Chosen c ≡ decisionWith (headerOf t) (keys T) → r ≡ concluded o c (sentInput t) T
         → Judged t T hb pb (first (laterTests t T hr pr)) r
     chosen {c} e f =
         let d = with-chosen (headerOf t) (keys T) e in
-        let mac = HMACSHA256 (secretOf T (choiceOf t T)) (covered t) in
+        let mac = HMACSHA256 (secretOf T (choiceOf t T)) (sentInput t) in
         let n : first (laterTests t T hr pr) ≡ first (macTests t T) = next ∙ first-after (headingTests (headerOf t) (keys T)) (macTests t T) refl (sym once-more ∙ d .0) in
         let header : take (length (headerOf t)) hb ≡ headerOf t = rw (← g .header-length) (g .header-front ok) in
         let payload : take (length (payloadOf t)) pb ≡ payloadOf t = rw (← g .payload-length) (g .payload-front ok) in
@@ -145,9 +145,9 @@ module _ (t T : List ℕ) {hb pb : List ℕ} {hr pr : ℕ} {o : Opened} (g : Ope
         → Judged t T hb pb (first (laterTests t T hr pr)) r
     judged-header {b = b} {r = r} p f =
         let h : take (o .header - 0) hb ≡ headerOf t = ap (λ (n : ℕ). take n hb) (sub-zero (o .header)) ∙ g .header-front ok in
-        let m : take (b - 0) t ≡ covered t = ap (λ (n : ℕ). take n t) (sub-zero b) ∙ sym (p .before) in
+        let m : take (b - 0) t ≡ sentInput t = ap (λ (n : ℕ). take n t) (sub-zero b) ∙ sym (p .before) in
         go (decisionWith (headerOf t) (keys T)) refl (f ∙ rw (h, m))
       where
-        go : (d : Decision) → decisionWith (headerOf t) (keys T) ≡ d → r ≡ decidedAs d o (covered t) T → Judged t T hb pb (first (laterTests t T hr pr)) r
+        go : (d : Decision) → decisionWith (headerOf t) (keys T) ≡ d → r ≡ decidedAs d o (sentInput t) T → Judged t T hb pb (first (laterTests t T hr pr)) r
         go (Refused n) e f = refused (sym e) f
         go (Chosen c) e f = chosen (sym e) f

@@ -19,8 +19,9 @@ use Rattle.jose_rules.specs.Decision.{decisionTests, decision}
 use Rattle.jose_rules.specs.DecisionLaws.{refused, chosen-by}
 use Rattle.jose_rules.specs.Header.{heading}
 use Rattle.jose_rules.specs.HeaderLaws.{heading-agree}
+use Rattle.jose_rules.specs.Promises.{distinct}
 use Rattle.jws_rules.specs.Outcomes.{unsigned, signedAs}
-use Rattle.jws_rules.specs.RuleLaws.{distinct, settle-bad}
+use Rattle.jws_rules.specs.RuleLaws.{settle-bad}
 use Rattle.jws_rules.specs.Tests.{signTests, signed}
 use Rattle.jws_rules.specs.Token.{tokenMost, tokenOf, finishedLength}
 use Rattle.jws.specs.Written.{lengthTests, finished}

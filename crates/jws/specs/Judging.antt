@@ -15,7 +15,7 @@ use Rattle.jose_rules.specs.declared.Decision.the-variants.{Refused, Chosen}
 use Rattle.jose_rules.specs.HeaderTests.{headingTests}
 use Rattle.jws_rules.specs.declared.Verified.{Verified}
 use Rattle.jws_rules.specs.Segments.{front, back}
-use Rattle.jws_rules.specs.Token.{headerOf, payloadOf, signatureOf, covered, secretOf}
+use Rattle.jws_rules.specs.Token.{headerOf, payloadOf, signatureOf, sentInput, secretOf}
 use Rattle.jws_rules.specs.Outcomes.{recordOf, zeroRecord}
 use Rattle.jws_rules.specs.Tests.{choiceOf}
 use Rattle.jws.specs.declared.opening.Opened.{Opened}
@@ -23,7 +23,7 @@ use Rattle.jws.specs.Opening.{segmentTests, isMac}
 
 -- `verifyTests` from its end: 15; 7 to 15; 4 to 15
 abbrev pub macTests : List ℕ → List ℕ → List Test
-macTests t T = 15 when not (same (signatureOf t) (HMACSHA256 (secretOf T (choiceOf t T)) (covered t))) ∷ []
+macTests t T = 15 when not (same (signatureOf t) (HMACSHA256 (secretOf T (choiceOf t T)) (sentInput t))) ∷ []
 
 abbrev pub headerTests : List ℕ → List ℕ → List Test
 headerTests t T = headingTests (headerOf t) (keys T) ++ macTests t T

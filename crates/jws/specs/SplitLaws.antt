@@ -10,7 +10,7 @@ use lib.Seq.{take-at, drop-at, drop-drop, take-all}
 use borrow.Author.Tests.{eqb-true, eq-eqb, ne-eqb}
 use Rattle.jws_rules.specs.Segments.{period, periods, front, back, _dot_}
 use Rattle.jws_rules.specs.SegmentLaws.{length-dot, periods-dot, split}
-use Rattle.jws_rules.specs.Token.{covered}
+use Rattle.jws_rules.specs.Token.{sentInput}
 use Rattle.jws.specs.declared.split.Cut.the-variants.{At, Not}
 use Rattle.jws.specs.Split.{splitOf}
 
@@ -84,7 +84,7 @@ pub record Places (t : List ℕ) (a b : ℕ) : Type 0 where
   pub header : front t ≡ take a t
   pub payload : front (back t) ≡ take (b - (a + 1)) (drop (a + 1) t)
   pub signature : back (back t) ≡ drop (b + 1) t
-  pub before : covered t ≡ take b t
+  pub before : sentInput t ≡ take b t
   pub apart : a < b
   pub within : b < length t
 
@@ -97,14 +97,14 @@ places t a b n two f g e =
     let m : b - (a + 1) ≡ n = omega arith in
     let k : b + 1 ≡ a + 1 + (n + 1) = omega arith in
     let back-at : back t ≡ drop (a + 1) t = rw f (d .back-is) in
-    let whole : t ≡ covered t ++ (period ∷ back (back t)) =
+    let whole : t ≡ sentInput t ++ (period ∷ back (back t)) =
     s .0 ∙ ap (λ (l : List ℕ). front t dot l) (u .0) ∙ sym (append-assoc (front t) (period ∷ front (back t)) (period ∷ back (back t))) in
     record {
       two = two;
       header = rw f (d .front-is);
       payload = rw (m, ← back-at, g) (r .front-is);
       signature = rw (k, ← drop-drop (n + 1) (a + 1) t, ← back-at, g) (r .back-is);
-      before = sym (ap (take b) whole ∙ take-at (covered t) (period ∷ back (back t)) b (omega (arith, length-dot (front t) (front (back t)))));
+      before = sym (ap (take b) whole ∙ take-at (sentInput t) (period ∷ back (back t)) b (omega (arith, length-dot (front t) (front (back t)))));
       apart = omega arith;
       within = omega arith;
     }

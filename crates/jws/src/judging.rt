@@ -67,13 +67,13 @@ fn acceptance(opened: Opened, choice: Choice) -> Verified
     }
 }
 
-// Rule 15: the signature is the MAC of the covered bytes under the chosen key's secret.
-fn conclude(opened: Opened, choice: Choice, covered: &[u8], table: &[u8]) -> Verified
+// Rule 15: the signature is the MAC of the JWS Signing Input under the chosen key's secret.
+fn conclude(opened: Opened, choice: Choice, input: &[u8], table: &[u8]) -> Verified
     requires { ⌜ (badTable (now table) ≡ false) × (choice .index < length (keys (now table))) ⌝ }
-    ensures { λ r. ⌜ r ≡ concluded opened choice (now (covered .entry)) (now (table .entry)) ⌝ }
+    ensures { λ r. ⌜ r ≡ concluded opened choice (now (input .entry)) (now (table .entry)) ⌝ }
 {
     let key = choice.index;
-    let mac = hmac::hmac_sha256(keytable::secret(table, key), covered);
+    let mac = hmac::hmac_sha256(keytable::secret(table, key), input);
     let signature = opened.signature;
     if is_mac(signature, &mac) {
         return acceptance(opened, choice);
@@ -82,13 +82,13 @@ fn conclude(opened: Opened, choice: Choice, covered: &[u8], table: &[u8]) -> Ver
 }
 
 // Rules 7 to 15, of a decoded header.
-fn judge_header(opened: Opened, header: &[u8], covered: &[u8], table: &[u8]) -> Verified
+fn judge_header(opened: Opened, header: &[u8], input: &[u8], table: &[u8]) -> Verified
     requires { ⌜ badTable (now table) ≡ false ⌝ }
-    ensures { λ r. ⌜ r ≡ decidedAs (decisionWith (now (header .entry)) (keys (now (table .entry)))) opened (now (covered .entry)) (now (table .entry)) ⌝ }
+    ensures { λ r. ⌜ r ≡ decidedAs (decisionWith (now (header .entry)) (keys (now (table .entry)))) opened (now (input .entry)) (now (table .entry)) ⌝ }
 {
     match decide_with(header, table) {
         Decision::Refused(answer) => refusal(answer),
-        Decision::Chosen(choice) => conclude(opened, choice, covered, table),
+        Decision::Chosen(choice) => conclude(opened, choice, input, table),
     }
 }
 

@@ -18,6 +18,7 @@ use Rattle.keytable.specs.TableLaws.{decides-good}
 use Rattle.jose_rules.specs.Header.{heading, HeaderChooses}
 use Rattle.jose_rules.specs.HeaderTests.{headerChoice}
 use Rattle.jose_rules.specs.HeaderLaws.{header-chooses, header-chooses-one, header-rules, header-bytes}
+use Rattle.jose_rules.specs.Promises.{distinct}
 use Rattle.jws_rules.specs.declared.Record.{Record}
 use Rattle.jws_rules.specs.Segments.{periods, front, back}
 use Rattle.jws_rules.specs.Token.{tokenMost, finishedLength, headerOf, payloadOf, signatureOf, secretOf}
@@ -25,7 +26,7 @@ use Rattle.jws_rules.specs.TokenLaws.{mac-bytes, length-token, Parts, pa
 use Rattle.jws_rules.specs.Outcomes.{recordOf, accepted}
 use Rattle.jws_rules.specs.Rules.{verifying, Differs, signing, choiceIn, Accepted}
 use Rattle.jws_rules.specs.Tests.{choiceOf, verified, verifyAnswer, made, signAnswer}
-use Rattle.jws_rules.specs.RuleLaws.{distinct, before-5, before-6, before-7, verify-good, verify-clear, sign-clear}
+use Rattle.jws_rules.specs.RuleLaws.{before-5, before-6, before-7, verify-good, verify-clear, sign-clear}
 
 -- VERIFYING
 

@@ -25,13 +25,14 @@ use Rattle.jose_rules.specs.Tests.{lookup, missingOrWrong, criticalBroken, chos
 use Rattle.jose_rules.specs.Header.{heading, nowhere, HeaderChoice, HeaderChooses}
 use Rattle.jose_rules.specs.HeaderTests.{headingTests, rawText, headerChoice}
 use Rattle.jose_rules.specs.HeaderLaws.{heading-agree, header-chooses, header-bytes, header-rules}
+use Rattle.jose_rules.specs.Promises.{distinct}
 use Rattle.jws_rules.specs.Segments.{period, periods, front, back, _dot_}
 use Rattle.jws_rules.specs.Token.{tokenMost, tokenOf, finishedLength, headerOf, secretOf}
 use Rattle.jws_rules.specs.TokenLaws.{length-token, Parts, parts}
 use Rattle.jws_rules.specs.Outcomes.{VerifyOutcome, recordOf, accepted, signedAs}
 use Rattle.jws_rules.specs.Rules.{verifying, signing, Accepted}
 use Rattle.jws_rules.specs.Tests.{verified, verifyAnswer, signed, signAnswer}
-use Rattle.jws_rules.specs.RuleLaws.{distinct, before-5, before-6, before-7}
+use Rattle.jws_rules.specs.RuleLaws.{before-5, before-6, before-7}
 use Rattle.jws_rules.specs.AcceptedLaws.{made-passes}
 use Rattle.jws_rules.specs.Promises.{accepted-gives, accepted-again}
 use Rattle.jws_rules.specs.Sides.{token-refused, header-refused, header-room-refused, payload-room-refused, signature-refused, sign-header-refused, sign-length-refused, sign-room-refused, empty-token, two-periods}

@@ -14,18 +14,19 @@ use Rattle.common.specs.Bytes.{Bytes}
 use Rattle.common.specs.Buffer.{filled}
 use Rattle.common.specs.First.{NoneOf, condition, earlier, numbers, among, first-stands, none-stands, in-range, not-on, _also_}
 use Rattle.json.specs.Answers.{longest}
-use Rattle.json.specs.Demand3.{memberNumber, Read, member-first, read-exactly}
+use Rattle.json.specs.Promises.{memberNumber, Read, member-first, read-exactly}
 use Rattle.keytable.specs.Key.{Key}
 use Rattle.keytable.specs.Table.{Wellformed, keys}
 use Rattle.jose_rules.specs.Header.{HeaderChoice, HeaderChooses}
 use Rattle.jose_rules.specs.HeaderTests.{headerChoice}
 use Rattle.jose_rules.specs.HeaderLaws.{header-chooses-one}
+use Rattle.jose_rules.specs.Promises.{distinct}
 use Rattle.jws_rules.specs.declared.Record.{Record}
 use Rattle.jws_rules.specs.Token.{tokenOf, finishedLength, headerOf, payloadOf, secretOf}
 use Rattle.jws_rules.specs.Outcomes.{VerifyOutcome, SignOutcome, recordOf, zeroRecord, accepted, payload, signedAs, headerIn, payloadIn, tokenIn}
 use Rattle.jws_rules.specs.Rules.{verifying, signing, choiceIn, Accepted}
 use Rattle.jws_rules.specs.Tests.{choiceOf, verified, verifyAnswer, made, signed, signAnswer}
-use Rattle.jws_rules.specs.RuleLaws.{distinct, verify-agree, verify-number, verify-is, verify-bad, sign-agree, sign-number, sign-good, sign-is, sign-bad}
+use Rattle.jws_rules.specs.RuleLaws.{verify-agree, verify-number, verify-is, verify-bad, sign-agree, sign-number, sign-good, sign-is, sign-bad}
 use Rattle.jws_rules.specs.AcceptedLaws.{accepted-if, accepted-only, sign-header, signed-accepted, accepted-signed}
 
 -- The payload call hands back a part of the buffer, as long as the record says; "an empty part if the record's length doesn't fit".
@@ -135,15 +136,18 @@ module _ (t T : List ℕ) (hr pr : ℕ) (h p : List ℕ) (r : Record) (a : Accep
       sign-good h p T room (accepted-signed h p T room a k)
       ∙ ap (λ (x : List ℕ). signedAs x room) (made-token h p T (a .table) (choiceIn r) (a .header) ∙ sym (a .token))
 
--- SIGN, THEN VERIFY
+-- SIGN, THEN VERIFY: the token is accepted, with the header and the payload that went in and what the header decides
 
 pub sign-verify : (h p T : List ℕ) (room : ℕ) → signAnswer h p T room ≡ 0 → Bytes p
     → (hr pr : ℕ) → length h ≤ hr → length p ≤ pr
-    → verified (tokenIn (signed h p T room)) T hr pr ≡ accepted h p (recordOf h p (headerChoice h (keys T))) hr pr
-sign-verify h p T room e pb hr pr k l =
-    ap (λ (s : SignOutcome). verified (tokenIn s) T hr pr) (sign-is h p T room e)
-    ∙ ap (λ (x : List ℕ). verified x T hr pr) (take-append-seam (made h p T) _)
-    ∙ accepted-if (made h p T) T hr pr h p (recordOf h p (headerChoice h (keys T))) (signed-accepted h p T room e pb hr pr k l)
+    → (c : HeaderChoice) × HeaderChooses h (keys T) c × (verified (tokenIn (signed h p T room)) T hr pr ≡ accepted h p (recordOf h p c) hr pr)
+sign-verify h p T room e pb hr pr k l = (
+  headerChoice h (keys T),
+  sign-header h p T room e .1,
+  ap (λ (s : SignOutcome). verified (tokenIn s) T hr pr) (sign-is h p T room e)
+      ∙ ap (λ (x : List ℕ). verified x T hr pr) (take-append-seam (made h p T) _)
+      ∙ accepted-if (made h p T) T hr pr h p (recordOf h p (headerChoice h (keys T))) (signed-accepted h p T room e pb hr pr k l),
+)
 
 -- VERIFY, THEN SIGN
 pub verify-sign : (t T : List ℕ) (hr pr : ℕ) → verifyAnswer t T hr pr ≡ 0 → (room : ℕ) → length t ≤ room

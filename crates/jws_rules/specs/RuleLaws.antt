@@ -7,7 +7,7 @@ use Prim.Native.Nat.{ℕ, zero, suc, _≤_}
 use native.Mathlib.Omega.{arith}
 use lib.ListN.{length}
 use Rattle.common.specs.First.{NoneOf, earlier, not-on, _also_, first, Decides, Agree, done, _by_, none-stands, agree-append, decides-bool, decides-lt, decides-eq, decides-not, decides-or, decides-iff}
-use Rattle.common.specs.Decided.{when-false, test-false, decides-false}
+use Rattle.common.specs.Decided.{when-false, decides-false}
 use Rattle.common.specs.Same.{same, decides-same}
 use Rattle.base64url.specs.Base64url.{strict}
 use Rattle.hmac.specs.Hmac.{HMACSHA256}
@@ -15,11 +15,11 @@ use Rattle.json.specs.Answers.{longest}
 use Rattle.keytable.specs.Key.{Distinct}
 use Rattle.keytable.specs.Table.{Wellformed, keys}
 use Rattle.keytable.specs.TableLaws.{decides-bad}
-use Rattle.keytable.specs.GoodKeys.{keys-distinct}
 use Rattle.jose_rules.specs.Header.{heading}
 use Rattle.jose_rules.specs.HeaderLaws.{heading-agree, header-chooses, header-chooses-one}
+use Rattle.jose_rules.specs.Promises.{distinct, deciding-agree}
 use Rattle.jws_rules.specs.Segments.{periods, front, back}
-use Rattle.jws_rules.specs.Token.{tokenMost, headerOf, payloadOf, signatureOf, covered, secretOf}
+use Rattle.jws_rules.specs.Token.{tokenMost, headerOf, payloadOf, signatureOf, sentInput, secretOf}
 use Rattle.jws_rules.specs.Outcomes.{VerifyOutcome, SignOutcome, recordOf, refused, accepted, unsigned, signedAs}
 use Rattle.jws_rules.specs.Rules.{verifying, Differs, signing}
 use Rattle.jws_rules.specs.Tests.{settle, choiceOf, verifyTests, verified, verifyAnswer, signTests, made, signed, signAnswer}
@@ -43,19 +43,14 @@ settle-answer : {A : Type 0} (answer : A → ℕ) (n : ℕ) (v : A) (f : ℕ →
 settle-answer answer zero v f e g = e
 settle-answer answer (suc n) v f e g = g (suc n)
 
--- THE TABLE
-
-pub distinct : (T : List ℕ) → ((Wellformed T → ⊥) → ⊥) → Distinct (keys T)
-distinct T w = keys-distinct T (test-false (decides-bad T) w)
-
 -- VERIFYING
 
 decides-differs : (t T : List ℕ) → Distinct (keys T) → NoneOf (heading (headerOf t) (keys T))
-    → Decides (Differs t T) (not (same (signatureOf t) (HMACSHA256 (secretOf T (choiceOf t T)) (covered t))))
+    → Decides (Differs t T) (not (same (signatureOf t) (HMACSHA256 (secretOf T (choiceOf t T)) (sentInput t))))
 decides-differs t T d n =
     let h = headerOf t in
     decides-iff (λ x. (choiceOf t T, header-chooses h (keys T) d n, x))
-    (λ x e. x .2 (e ∙ ap (λ c. HMACSHA256 (secretOf T c) (covered t)) (sym (header-chooses-one h (keys T) d (x .0) (x .1)))))
+    (λ x e. x .2 (e ∙ ap (λ c. HMACSHA256 (secretOf T c) (sentInput t)) (sym (header-chooses-one h (keys T) d (x .0) (x .1)))))
     (decides-not (decides-same _ _))
 
 pub verify-agree : (t T : List ℕ) (hr pr : ℕ) → Agree (verifying t T hr pr) (verifyTests t T hr pr)
@@ -111,10 +106,7 @@ verify-bad t T hr pr h =
 -- SIGNING
 
 pub sign-agree : (h p T : List ℕ) (room : ℕ) → Agree (signing h p T room) (signTests h p T room)
-sign-agree h p T room =
-    decides-bad T
-    by λ table. decides-lt _ _
-    by λ _. agree-append (heading-agree h (keys T) (distinct T table)) (λ _. decides-lt _ _ by λ _. decides-lt _ _ by λ _. done)
+sign-agree h p T room = agree-append (deciding-agree h T) (λ _. decides-lt _ _ by λ _. decides-lt _ _ by λ _. done)
 
 pub sign-number : (h p T : List ℕ) (room : ℕ) → signAnswer h p T room ≡ first (signTests h p T room)
 unfolding signed

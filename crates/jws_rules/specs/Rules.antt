@@ -1,4 +1,5 @@
--- The rules of verifying and of signing: each condition in the specification's words under its number, in the call's order. And what it is to be accepted.
+-- The rules of verifying and of signing (RFC 7515 sections 5.2 and 5.1, in the specification's order): each condition in the specification's words
+-- under its number. And what it is to be accepted.
 use mathlib.Core.Path.{_≡_}
 use mathlib.Core.Logic.{_⊎_}
 use mathlib.Core.Bool.{false}
@@ -14,11 +15,11 @@ use Rattle.keytable.specs.Table.{Wellformed, keys}
 use Rattle.jose_rules.specs.Header.{heading, HeaderChoice, HeaderChooses}
 use Rattle.jws_rules.specs.declared.Record.{Record}
 use Rattle.jws_rules.specs.Segments.{periods, front, back}
-use Rattle.jws_rules.specs.Token.{tokenMost, tokenOf, finishedLength, headerOf, payloadOf, signatureOf, covered, secretOf}
+use Rattle.jws_rules.specs.Token.{tokenMost, tokenOf, finishedLength, headerOf, payloadOf, signatureOf, sentInput, secretOf}
 
 -- the decoded signature isn't the MAC under the secret of the key that the header chooses
 abbrev pub Differs : List ℕ → List ℕ → Type 0
-Differs t T = (c : HeaderChoice) × HeaderChooses (headerOf t) (keys T) c × (signatureOf t ≡ HMACSHA256 (secretOf T c) (covered t) → ⊥)
+Differs t T = (c : HeaderChoice) × HeaderChooses (headerOf t) (keys T) c × (signatureOf t ≡ HMACSHA256 (secretOf T c) (sentInput t) → ⊥)
 
 -- t: the token; T: the table; hr, pr: the lengths of the buffers lent for the header and the payload. "Verifying: 1 to 15 as numbered."
 abbrev pub verifying : List ℕ → List ℕ → ℕ → ℕ → List Rule

@@ -15,11 +15,12 @@ use Rattle.hmac.specs.HmacLaws.{length-HMACSHA256}
 use Rattle.json.specs.Answers.{deepest}
 use Rattle.keytable.specs.Table.{Wellformed, keys}
 use Rattle.jose_rules.specs.HeaderLaws.{header-chooses}
+use Rattle.jose_rules.specs.Promises.{distinct}
 use Rattle.jws_rules.specs.Segments.{periods, front, back, period}
 use Rattle.jws_rules.specs.Token.{finishedLength, headerOf, payloadOf, signatureOf}
 use Rattle.jws_rules.specs.Rules.{verifying, signing}
 use Rattle.jws_rules.specs.Tests.{choiceOf, verifyAnswer, signAnswer}
-use Rattle.jws_rules.specs.RuleLaws.{distinct, before-5, before-6, before-7}
+use Rattle.jws_rules.specs.RuleLaws.{before-5, before-6, before-7}
 use Rattle.jws_rules.specs.Promises.{verify-first, sign-first}
 
 -- VERIFYING

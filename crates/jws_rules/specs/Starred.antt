@@ -1,6 +1,6 @@
 -- The specification's starred rows ("On both sides of the line"), in its order, as rows of one claim about the definitions.
 use mathlib.Core.Path.{_≡_, refl}
-use mathlib.Core.Bool.{false}
+use mathlib.Core.Bool.{true, false}
 use mathlib.Core.List.{List, []}
 use Prim.Native.Nat.{ℕ, suc}
 use Rattle.common.specs.Same.{same}
@@ -29,7 +29,7 @@ pub record Starred : Type 0 where
   -- `JC4wMh`: 4. `JC4wM`: 4. Empty segment: no bytes
   pub unused-bit : strict (ascii "JC4wMh") ≡ false
   pub bad-length : strict (ascii "JC4wM") ≡ false
-  pub empty : decode [] ≡ []
+  pub empty : (strict [] ≡ true) × (decode [] ≡ [])
   -- read, one member
   pub one-member : (answers "{\"alg\":\"HS256\"}" 0 ≡ Text (place 2 5) (place 8 13)) × ((k : ℕ) → answers "{\"alg\":\"HS256\"}" (suc k) ≡ RefusedMember 16)
   -- 8, whichever member is asked for
@@ -40,8 +40,10 @@ pub record Starred : Type 0 where
   -- 10, and 9, whatever the keys
   pub format-unlisted : (ks : List Key) → decisionWith (ascii "{\"alg\":\"HS256\",\"fmt\":2}") ks ≡ Refused 10
   pub format-exponent : (ks : List Key) → decisionWith (ascii "{\"alg\":\"HS256\",\"crit\":[\"fmt\"],\"fmt\":1e0}") ks ≡ Refused 9
-  -- read, and it has one reading
-  pub white-space : answers "{\"alg\":\"HS256\",\"x\":[ ]}" 1 ≡ Array (place 16 17) (place 19 22)
+  -- read (0 or 16 for every member), and it has one reading
+  pub white-space :
+      (answers "{\"alg\":\"HS256\",\"x\":[ ]}" 0 ≡ Text (place 2 5) (place 8 13)) × (answers "{\"alg\":\"HS256\",\"x\":[ ]}" 1 ≡ Array (place 16 17) (place 19 22))
+      × ((k : ℕ) → answers "{\"alg\":\"HS256\",\"x\":[ ]}" (suc (suc k)) ≡ RefusedMember 16)
   pub one-reading : (t u : Derivation) → bytes t ≡ ascii "{\"alg\":\"HS256\",\"x\":[ ]}" → bytes u ≡ ascii "{\"alg\":\"HS256\",\"x\":[ ]}" → readingOf t ≡ readingOf u
 
 pub starred : Starred
@@ -52,13 +54,13 @@ starred =
       encodes = examples .encodes;
       unused-bit = examples .unused-bit .0;
       bad-length = examples .bad-length .0;
-      empty = examples .empty .1;
+      empty = (examples .empty .0, examples .empty .1);
       one-member = (rows .0, rows .1);
       name-twice = rows .2;
       comma-at-end = rows .3;
       low-surrogate = rows .4;
       format-unlisted = λ ks. refl;
       format-exponent = λ ks. refl;
-      white-space = rows .5;
-      one-reading = rows .6;
+      white-space = (rows .5, rows .6, rows .7);
+      one-reading = rows .8;
     }

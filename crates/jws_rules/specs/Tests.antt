@@ -13,7 +13,7 @@ use Rattle.keytable.specs.Table.{badTable, keys}
 use Rattle.jose_rules.specs.Header.{HeaderChoice}
 use Rattle.jose_rules.specs.HeaderTests.{headingTests, headerChoice}
 use Rattle.jws_rules.specs.Segments.{periods, front, back}
-use Rattle.jws_rules.specs.Token.{tokenMost, tokenOf, finishedLength, headerOf, payloadOf, signatureOf, covered, secretOf}
+use Rattle.jws_rules.specs.Token.{tokenMost, tokenOf, finishedLength, headerOf, payloadOf, signatureOf, sentInput, secretOf}
 use Rattle.jws_rules.specs.Outcomes.{VerifyOutcome, SignOutcome, recordOf, refused, accepted, unsigned, signedAs}
 
 -- 0 is success, and any other number a refusal
@@ -34,7 +34,7 @@ verifyTests t T hr pr =
     ∷ 5 when ltb longest (length (headerOf t))
     ∷ 6 when (ltb hr (length (headerOf t)) || ltb pr (length (payloadOf t)))
     ∷ (headingTests (headerOf t) (keys T)
-    ++ (15 when not (same (signatureOf t) (HMACSHA256 (secretOf T (choiceOf t T)) (covered t)))
+    ++ (15 when not (same (signatureOf t) (HMACSHA256 (secretOf T (choiceOf t T)) (sentInput t)))
     ∷ []))
 
 unfoldable pub verified : List ℕ → List ℕ → ℕ → ℕ → VerifyOutcome

@@ -2,7 +2,7 @@
 use mathlib.Core.List.{List}
 use Prim.Native.Nat.{ℕ, _+_}
 use lib.ListN.{length}
-use Rattle.base64url.specs.Base64url.{encode, decode}
+use Rattle.base64url.specs.Base64url.{encode, encodedLength, decode}
 use Rattle.hmac.specs.Hmac.{HMACSHA256}
 use Rattle.keytable.specs.Key.{key}
 use Rattle.keytable.specs.Table.{keys}
@@ -13,17 +13,21 @@ use Rattle.jws_rules.specs.Segments.{front, back, _dot_}
 abbrev pub tokenMost : ℕ
 tokenMost = 16384
 
--- the MAC over RFC 7515 section 5.1's signing input: BASE64URL(UTF8(JWS Protected Header)) || '.' || BASE64URL(JWS Payload)
+-- RFC 7515 section 2, the JWS Signing Input: BASE64URL(UTF8(JWS Protected Header)) || '.' || BASE64URL(JWS Payload)
+abbrev pub signingInput : List ℕ → List ℕ → List ℕ
+signingInput h p = encode h dot encode p
+
+-- RFC 7515 section 5.1, step 5: the JWS Signature; with HS256 the MAC over the JWS Signing Input (RFC 7518 section 3.2)
 abbrev pub macOf : List ℕ → List ℕ → List ℕ → List ℕ
-macOf secret h p = HMACSHA256 secret (encode h dot encode p)
+macOf secret h p = HMACSHA256 secret (signingInput h p)
 
 -- RFC 7515 section 7.1: BASE64URL(UTF8(JWS Protected Header)) || '.' || BASE64URL(JWS Payload) || '.' || BASE64URL(JWS Signature)
 abbrev pub tokenOf : List ℕ → List ℕ → List ℕ → List ℕ
 tokenOf secret h p = encode h dot encode p dot encode (macOf secret h p)
 
--- "1 (finished length)": the two segments, 43 characters for the MAC's 32 bytes, two periods. It is the token's length: `length-token` of TokenLaws
+-- "1 (finished length)": the two segments, that of the MAC's 32 bytes, two periods. It is the token's length: `length-token` of TokenLaws
 abbrev pub finishedLength : List ℕ → List ℕ → ℕ
-finishedLength h p = length (encode h) + length (encode p) + 43 + 2
+finishedLength h p = length (encode h) + length (encode p) + encodedLength 32 + 2
 
 -- "Three segments between two periods, in the order header, payload, signature."
 abbrev pub headerOf : List ℕ → List ℕ
@@ -35,9 +39,9 @@ payloadOf t = decode (front (back t))
 abbrev pub signatureOf : List ℕ → List ℕ
 signatureOf t = decode (back (back t))
 
--- "The MAC covers the token's own bytes before the second period."
-abbrev pub covered : List ℕ → List ℕ
-covered t = front t dot front (back t)
+-- "The MAC covers the token's own bytes before the second period.": the JWS Signing Input as it was sent
+abbrev pub sentInput : List ℕ → List ℕ
+sentInput t = front t dot front (back t)
 
 -- the secret of the key that a header chooses
 abbrev pub secretOf : List ℕ → HeaderChoice → List ℕ

@@ -15,7 +15,7 @@ use Rattle.hmac.specs.Hmac.{HMACSHA256}
 use Rattle.hmac.specs.HmacLaws.{length-HMACSHA256, bytes-HMACSHA256}
 use Rattle.jws_rules.specs.Segments.{period, periods, front, back, _dot_}
 use Rattle.jws_rules.specs.SegmentLaws.{length-dot, periods-dot, front-dot, back-dot, split}
-use Rattle.jws_rules.specs.Token.{macOf, tokenOf, finishedLength, headerOf, payloadOf, signatureOf, covered}
+use Rattle.jws_rules.specs.Token.{macOf, tokenOf, finishedLength, headerOf, payloadOf, signatureOf, sentInput}
 
 -- no period stands in an encoded text
 lacking : (s : List ℕ) → lacks period s ≡ true → periods s ≡ 0
@@ -76,7 +76,7 @@ parts {t} {secret} {h} {p} e hb pb =
 
 -- A TOKEN THAT IS TAKEN APART, at two periods and by strict segments, is made of its parts.
 pub whole : (t secret : List ℕ) → periods t ≡ 2 → strict (front t) ≡ true → strict (front (back t)) ≡ true → strict (back (back t)) ≡ true
-    → signatureOf t ≡ HMACSHA256 secret (covered t) → t ≡ tokenOf secret (headerOf t) (payloadOf t)
+    → signatureOf t ≡ HMACSHA256 secret (sentInput t) → t ≡ tokenOf secret (headerOf t) (payloadOf t)
 whole t secret two f1 f2 f3 signature =
     let s1 = split t (omega arith) in
     let s2 = split (back t) (omega (arith, periods-dot (front t) (back t), ap periods (s1 .0))) in

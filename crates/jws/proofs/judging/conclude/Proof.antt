@@ -20,9 +20,9 @@ is-mac-requires c κs = search needs
 acceptance-requires : tie.Need-acceptance-requires
 acceptance-requires c κs = search needs
 
--- the MAC is that of the covered bytes under the chosen key's secret
+-- the MAC is that of the JWS Signing Input under the chosen key's secret
 by-mac : {v : Verified} (c : tie.After-is-mac) → let a = c .before .before .before .before .before .before .before .args in
-    v ≡ cond (c .is-mac .result) (acceptanceOf (a .opened) (a .choice)) (refusalOf 15) → v ≡ concluded (a .opened) (a .choice) (a .covered .now) (a .table .now)
+    v ≡ cond (c .is-mac .result) (acceptanceOf (a .opened) (a .choice)) (refusalOf 15) → v ≡ concluded (a .opened) (a .choice) (a .input .now) (a .table .now)
 by-mac c h =
     let a = c .before .before .before .before .before .before .before .args in
     law.conclusion (a .opened) (a .choice) _ _ (c .before .before .before .before .secret .ensures) (c .before .before .before .hmac-sha256 .ensures) (c .is-mac .ensures) h
