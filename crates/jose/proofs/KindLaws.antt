@@ -16,6 +16,8 @@ use Rattle.json.specs.declared.places.Place.{Place as Span}
 use Rattle.json.specs.declared.steps.Item.{Item}
 use Rattle.json.specs.Members.{ElementsAt, ElementsFrom, FirstElement, ItemAt}
 use Rattle.json.specs.MemberLaws.{no-elements}
+use Rattle.json.specs.Steps.{firstElement}
+use Rattle.json.specs.StepLaws.{first-element}
 use Rattle.decimal.specs.declared.Integer.{Integer}
 use Rattle.decimal.specs.Integer.{integerOf}
 use Rattle.jose.specs.declared.members.Slot.the-variants.{Absent, Is}
@@ -97,8 +99,8 @@ module _ {h : List ℕ} {p : ℕ} {i : Item} (it : ItemAt h p (inside - 1) i) wh
 
 -- `crit`
 
-pub first-as : {h : List ℕ} {p : ℕ} {r s : End} → FirstElement h p r → r ≡ s → FirstElement h p s
-first-as {h} {p} f e = subst (λ (r : End). FirstElement h p r) e f
+pub first-as : {h : List ℕ} {p : ℕ} {r s : End} → r ≡ firstElement h p → r ≡ s → FirstElement h p s
+first-as {h} {p} f e = first-element h p (sym e ∙ f)
 
 not-not : (b : Bool) → not (not b) ≡ b
 not-not true = refl

@@ -14,7 +14,7 @@ use Rattle.json.specs.declared.steps.Entry.{Entry}
 use Rattle.json.specs.Members.{MembersAt, MembersFrom, TopMembers, EntryAt, ValueIs}
 use Rattle.json.specs.Answers.{deepest, membersIn, checked}
 use Rattle.json.specs.MemberLaws.{no-members, checked-read}
-use Rattle.json.proofs.StepLaws.{first-name}
+use Rattle.json.specs.StepLaws.{first-name}
 use Rattle.jose.specs.declared.members.Slot.{Slot}
 use Rattle.jose.specs.declared.members.Slot.the-variants.{Absent, Is}
 use Rattle.jose.specs.declared.members.Known.{Known}

@@ -2,28 +2,27 @@
 use mathlib.Core.Path.{_≡_, refl, sym, ap, ap₂, _∙_, subst}
 use mathlib.Core.Bool.{Bool, true, false, not}
 use mathlib.Core.List.{List, [], _∷_}
-use Prim.Native.Nat.{ℕ, zero, suc, _+_, _-_, _≤_, _<_}
+use Prim.Native.Nat.{ℕ, zero, suc, _-_, _≤_, _<_}
 use native.Mathlib.Omega.{arith}
-use lib.ListN.{length, drop, getD, length-drop, drop-of-length-le}
+use lib.ListN.{length}
 use borrow.Author.Tests.{lt-ltb, le-ltb}
 use Rattle.common.specs.First.{_when_, first}
 use Rattle.json_grammar.specs.Value.{LMembers, item, named, lnil, lcons, plain}
 use Rattle.json_grammar.specs.Places.{Kind, kindOf, placed, member}
-use Rattle.json_grammar.specs.Reader.{Got, got, readObject, read}
-use Rattle.json_grammar.specs.ReaderLaws.{read-inv}
+use Rattle.json_grammar.specs.Reader.{Got, got, read}
 use Rattle.json_grammar.specs.ScanLaws.{scan-read}
 use Rattle.json_string.specs.declared.End.{End}
 use Rattle.json_string.specs.declared.End.the-variants.{At, Bad}
-use Rattle.json_string.specs.Ends.{at-byte}
-use Rattle.json_reader.specs.Contracts.{SkipsTo, isText}
+use Rattle.json_reader.specs.Contracts.{isText}
 use Rattle.json.specs.declared.steps.Entry.{Entry}
 use Rattle.json.specs.declared.places.Member.{Member}
 use Rattle.json.specs.declared.places.Member.the-variants.{Refused}
-use Rattle.json.specs.Members.{MembersAt, MembersFrom, FirstMember, TopMembers, EntryAt, kindIn}
+use Rattle.json.specs.Members.{MembersAt, MembersFrom, TopMembers, EntryAt, kindIn}
 use Rattle.json.specs.Twice.{TwiceFrom}
 use Rattle.json.specs.Answers.{longest, deepest, membersIn, twiceIn, headerTests, checked, shownBy, place, answerFor, unlessRefused, memberOf, Picks}
 use Rattle.json.specs.MemberLaws.{no-members, text-read, checked-read}
-use Rattle.json.proofs.SequenceLaws.{never}
+use Rattle.json.specs.Steps.{topMembers}
+use Rattle.json.specs.StepLaws.{top-members}
 
 -- THE HEADER'S ANSWER
 
@@ -54,29 +53,9 @@ module _ (h : List ℕ) (k : length h ≤ longest) where
 
 -- THE TOP OBJECT
 
-module _ {h : List ℕ} {at : ℕ} (w : SkipsTo h 0 at) where
-  pub top-is : {r : End} → at < length h → FirstMember h at r → TopMembers h r
-  top-is {r} k f = record {
-    within = f .within;
-    is = λ d ms x e.
-        let i = read-inv d h ms x e in
-        let tail-is : 0x7B ∷ i .0 ≡ getD h at 0 ∷ drop (at + 1) h = sym (i .2) ∙ w .is ∙ at-byte h at k in
-        let y-is : i .0 ≡ drop (at + 1) h = cc in
-        f .is d ms (record { fuel = length h; enough = omega (arith, length-drop (at + 1) h); left = i .1; reads = ap (readObject (length h) d) (sym y-is) ∙ i .3 });
-  }
-
-  pub top-out : length h ≤ at → TopMembers h Bad
-  top-out k = record {
-    within = λ p e. never e;
-    is = λ d ms x e.
-        let i = read-inv d h ms x e in
-        let z : 0x7B ∷ i .0 ≡ [] = sym (i .2) ∙ w .is ∙ drop-of-length-le h k in
-        absurd (let z : _≡_ {A = ℕ} 0 1 = cc in omega arith);
-  }
-
 -- a callee's contract at the answer that it gave
-pub tops : {h : List ℕ} {x y : End} → x ≡ y → TopMembers h x → TopMembers h y
-tops {h} e t = subst (λ (z : End). TopMembers h z) e t
+pub tops : (h : List ℕ) {x y : End} → x ≡ y → x ≡ topMembers h → TopMembers h y
+tops h e t = top-members h (sym e ∙ t)
 
 -- MEMBER k
 

@@ -1,5 +1,4 @@
 -- Laws for the code's proofs.
-pub mod SequenceLaws
-pub mod StepLaws
+pub mod StepPaths
 pub mod NameLaws
 pub mod HeaderLaws

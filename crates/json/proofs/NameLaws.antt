@@ -26,7 +26,7 @@ use Rattle.json.specs.declared.names.Search.the-variants.{Twice, Past}
 use Rattle.json.specs.Members.{MembersAt, MembersFrom, EntryAt}
 use Rattle.json.specs.Twice.{namesOf, NamesTwice, Fingerprinted, Block, empty, one-more, crosses, Meets, Searched, ObjectTwice, TwiceFrom}
 use Rattle.json.specs.MemberLaws.{no-members}
-use Rattle.json.proofs.StepLaws.{first-name}
+use Rattle.json.specs.StepLaws.{first-name}
 
 -- LISTS OF NAMES
 

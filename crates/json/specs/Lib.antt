@@ -3,5 +3,7 @@ pub mod Members
 pub mod Twice
 pub mod Answers
 pub mod MemberLaws
+pub mod Steps
+pub mod StepLaws
 pub mod Promises
 pub mod Rows

@@ -2,14 +2,14 @@
 use mathlib.Core.Path.{_≡_}
 use mathlib.Core.List.{List}
 use Prim.Native.Nat.{ℕ, _+_, _-_, _≤_, _<_}
-use lib.ListN.{length, take, drop, getD}
+use lib.ListN.{length, take, drop}
 use Rattle.json_grammar.specs.Value.{LValue, LItems, LMembers, stringL, numberL, trueL, falseL, nullL, arrayL, objectL, item, inil, icons, named, lnil, lcons, plain}
 use Rattle.json_grammar.specs.Places.{stringK, numberK, trueK, falseK, nullK, arrayK, objectK, kindOf, margin, pos, Kind as Kinds}
-use Rattle.json_grammar.specs.Reader.{Got, got, ws, read, readObject, readMoreMembers, readMoreElements, valueLead}
+use Rattle.json_grammar.specs.Reader.{Got, got, read, readObject}
 use Rattle.json_string.specs.declared.End.{End}
 use Rattle.json_string.specs.declared.End.the-variants.{At, Bad}
 use Rattle.json_string.specs.Strings.{NameAt}
-use Rattle.json_reader.specs.Contracts.{SkipsTo, readMembers, readElements, readArray, kindBy}
+use Rattle.json_reader.specs.Contracts.{readMembers, readElements, readArray}
 use Rattle.json.specs.declared.places.Place.{Place}
 use Rattle.json.specs.declared.places.Kind.{Kind}
 use Rattle.json.specs.declared.places.Kind.the-variants.{String, Number, True, False, Null, Array, Object}
@@ -114,27 +114,3 @@ pub record EntryAt (s : List ℕ) (p d : ℕ) (r : Entry) : Type 0 where
   pub later : (q : ℕ) → r .next ≡ At q → (p < q) × (q < length s)
   pub is : (f t n a b : List ℕ) (v : LValue) (ms : LMembers) → MembersAt s p d (lcons (named f t n (item a b v)) ms)
       → NameIs s (r .name) f t n × ValueIs s d (r .kind) (r .value) a b v × MembersFrom s d (r .next) ms
-
--- PARTS OF A STEP
-
--- what follows the byte at `before` and white space: a place, or nothing where the closing byte comes there
-abbrev pub Inside : List ℕ → ℕ → ℕ → End → Type 0
-Inside s before close (At p) = SkipsTo s (before + 1) p × (p < length s) × (getD s p 0 ≡ close → ⊥)
-Inside s before close Bad = (p : ℕ) × SkipsTo s (before + 1) p × (p < length s → getD s p 0 ≡ close)
-
--- what follows a value that ends at e: another, if a comma comes next
-pub record Follows (s : List ℕ) (e : ℕ) (r : End) : Type 0 where
-  pub later : (q : ℕ) → r ≡ At q → (e < q) × (q < length s)
-  pub members : (n d : ℕ) (ms : LMembers) (x : List ℕ) → length (drop e s) ≤ n → readMoreMembers n d (ws (drop e s)) ≡ got ms x → MembersFrom s d r ms
-  pub elements : (n d : ℕ) (vs : LItems) (x : List ℕ) → length (drop e s) ≤ n → readMoreElements n d (ws (drop e s)) ≡ got vs x → ElementsFrom s d r vs
-
--- the place of a value that begins with the byte b and stands from f to e
-pub record PlaceIs (b f e : ℕ) (x : Place) : Type 0 where
-  pub start : x .start ≡ f + margin (kindBy (valueLead b))
-  pub end : x .end ≡ e - margin (kindBy (valueLead b))
-
--- the value that stands from f to e, and what follows it
-pub record Spanned (s : List ℕ) (f e : ℕ) (r : Item) : Type 0 where
-  pub kind : kindIn (r .kind) ≡ kindBy (valueLead (getD s f 0))
-  pub value : PlaceIs (getD s f 0) f e (r .value)
-  pub next : Follows s e (r .next)

@@ -12,7 +12,8 @@ use json_string::End;
 ghost use mathlib.Core.Path.{_≡_};
 ghost use Prim.Native.Nat.{_<_};
 ghost use lib.ListN.{length};
-ghost use Rattle.json.specs.Members.{kindIn, TopMembers};
+ghost use Rattle.json.specs.Members.{kindIn};
+ghost use Rattle.json.specs.Steps.{topMembers};
 ghost use Rattle.json.specs.Answers.{checked, shownBy, memberOf, Picks};
 
 // The greatest length of a header, and the greatest depth, in which the top object is 1.
@@ -40,7 +41,7 @@ pub fn check(header: &[u8]) -> u8
 // Where the first member of the top object begins, if it has one.
 // Rules out no members of a header that has some, and a brace looked for in the white space before it.
 pub fn top_members(header: &[u8]) -> End
-    ensures { λ r. ⌜ TopMembers (now (header .entry)) r ⌝ }
+    ensures { λ r. ⌜ r ≡ topMembers (now (header .entry)) ⌝ }
 {
     let at = skip_ws(header, 0);
     if at < header.len() {

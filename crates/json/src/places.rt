@@ -1,9 +1,11 @@
 // Kinds and places of values, and the member reader's answer.
 ghost use mathlib.Core.Path.{_≡_};
-ghost use Prim.Native.Nat.{_<_};
+ghost use Prim.Native.Nat.{_+_, _-_, _<_};
+ghost use Rattle.json_grammar.specs.Places.{margin};
 ghost use Rattle.json_grammar.specs.Reader.{valueLead};
 ghost use Rattle.json_reader.specs.Contracts.{kindBy};
-ghost use Rattle.json.specs.Members.{kindIn, PlaceIs};
+ghost use Rattle.json.specs.Answers.{place};
+ghost use Rattle.json.specs.Steps.{kindFor};
 
 // A part of a text: start is the place of its first byte, end the place after its last.
 pub struct Place {
@@ -36,7 +38,7 @@ pub enum Member {
 
 // The kind of a value that begins with the byte b.
 pub(crate) fn kind_by(b: u8) -> Kind
-    ensures { λ r. ⌜ kindIn r ≡ kindBy (valueLead b) ⌝ }
+    ensures { λ r. ⌜ r ≡ kindFor (kindBy (valueLead b)) ⌝ }
 {
     if b == 0x22 {
         return Kind::String;
@@ -62,7 +64,7 @@ pub(crate) fn kind_by(b: u8) -> Kind
 // The place of a value that begins with the byte b and stands from f to e: a string is taken between its quotation marks.
 pub(crate) fn place_by(b: u8, f: usize, e: usize) -> Place
     requires { ⌜ f < e ⌝ }
-    ensures { λ r. ⌜ PlaceIs b f e r ⌝ }
+    ensures { λ r. ⌜ r ≡ place (f + margin (kindBy (valueLead b))) (e - margin (kindBy (valueLead b))) ⌝ }
 {
     if b == 0x22 {
         return Place {

@@ -10,9 +10,11 @@ use json_reader::value_span;
 use json_string::End;
 use json_string::string_end;
 ghost use mathlib.Core.Path.{_≡_};
-ghost use Prim.Native.Nat.{_≤_, _<_};
-ghost use lib.ListN.{length};
-ghost use Rattle.json.specs.Members.{FirstMember, FirstElement, Inside, Follows, Spanned, ItemAt, EntryAt};
+ghost use Prim.Native.Nat.{_+_, _≤_, _<_};
+ghost use lib.ListN.{length, drop, getD};
+ghost use Rattle.json_grammar.specs.Reader.{ws, valueLead};
+ghost use Rattle.json_reader.specs.Contracts.{kindBy};
+ghost use Rattle.json.specs.Steps.{firstIn, firstMember, firstElement, nextIn, itemBy, noItem, itemAt, noEntry, entryAt};
 
 // A member: the places of its name and of its value, the value's kind, and where the next member begins, if there is one.
 pub struct Entry {
@@ -33,7 +35,7 @@ pub struct Item {
 // Rules out the brace's own place, and a member in `{ }`.
 pub fn first_member(s: &[u8], brace: usize) -> End
     requires { ⌜ brace < length (now s) ⌝ }
-    ensures { λ r. ⌜ FirstMember (now (s .entry)) brace r ⌝ }
+    ensures { λ r. ⌜ r ≡ firstMember (now (s .entry)) brace ⌝ }
 {
     inside(s, brace, 0x7D)
 }
@@ -42,7 +44,7 @@ pub fn first_member(s: &[u8], brace: usize) -> End
 // Rules out the bracket's own place, and an element in `[ ]`.
 pub fn first_element(s: &[u8], bracket: usize) -> End
     requires { ⌜ bracket < length (now s) ⌝ }
-    ensures { λ r. ⌜ FirstElement (now (s .entry)) bracket r ⌝ }
+    ensures { λ r. ⌜ r ≡ firstElement (now (s .entry)) bracket ⌝ }
 {
     inside(s, bracket, 0x5D)
 }
@@ -50,7 +52,7 @@ pub fn first_element(s: &[u8], bracket: usize) -> End
 // What follows the byte at `before` and white space, unless it is the byte `close`.
 fn inside(s: &[u8], before: usize, close: u8) -> End
     requires { ⌜ before < length (now s) ⌝ }
-    ensures { λ r. ⌜ Inside (now (s .entry)) before close r ⌝ }
+    ensures { λ r. ⌜ r ≡ firstIn close (now (s .entry)) (ws (drop (before + 1) (now (s .entry)))) ⌝ }
 {
     let p = skip_ws(s, before + 1);
     if p < s.len() {
@@ -65,7 +67,7 @@ fn inside(s: &[u8], before: usize, close: u8) -> End
 // What follows the comma after a value that ends at e, if there is one.
 fn after_comma(s: &[u8], e: usize) -> End
     requires { ⌜ e ≤ length (now s) ⌝ }
-    ensures { λ r. ⌜ Follows (now (s .entry)) e r ⌝ }
+    ensures { λ r. ⌜ r ≡ nextIn (now (s .entry)) (ws (drop e (now (s .entry)))) ⌝ }
 {
     let at = skip_ws(s, e);
     if at < s.len() {
@@ -84,7 +86,7 @@ fn after_comma(s: &[u8], e: usize) -> End
 // The value that stands from f to e, and what follows it.
 fn spanned(s: &[u8], f: usize, e: usize) -> Item
     requires { ⌜ (f < e) × (e ≤ length (now s)) ⌝ }
-    ensures { λ r. ⌜ Spanned (now (s .entry)) f e r ⌝ }
+    ensures { λ r. ⌜ r ≡ itemBy (now (s .entry)) (kindBy (valueLead (getD (now (s .entry)) f 0))) f e (ws (drop e (now (s .entry)))) ⌝ }
 {
     let value = place_by(s[f], f, e);
     let kind = kind_by(s[f]);
@@ -94,7 +96,7 @@ fn spanned(s: &[u8], f: usize, e: usize) -> Item
 
 // What is answered where nothing stands.
 fn no_item() -> Item
-    ensures { λ r. ⌜ r .next ≡ End.Bad ⌝ }
+    ensures { λ r. ⌜ r ≡ noItem ⌝ }
 {
     Item {
         value: Place { start: 0, end: 0 },
@@ -104,7 +106,7 @@ fn no_item() -> Item
 }
 
 fn no_entry() -> Entry
-    ensures { λ r. ⌜ r .next ≡ End.Bad ⌝ }
+    ensures { λ r. ⌜ r ≡ noEntry ⌝ }
 {
     Entry {
         name: Place { start: 0, end: 0 },
@@ -115,10 +117,10 @@ fn no_entry() -> Entry
 }
 
 // The element at p.
-// Rules out a string's place that has its quotation mark, and the kind of another value.
+// Rules out a string's place that has its quotation mark, the kind of another value, and a place where no element is read.
 pub fn item_at(s: &[u8], p: usize, depth: usize) -> Item
     requires { ⌜ p ≤ length (now s) ⌝ }
-    ensures { λ r. ⌜ ItemAt (now (s .entry)) p depth r ⌝ }
+    ensures { λ r. ⌜ r ≡ itemAt (now (s .entry)) p depth ⌝ }
 {
     let f = skip_ws(s, p);
     if f < s.len() {
@@ -135,11 +137,14 @@ pub fn item_at(s: &[u8], p: usize, depth: usize) -> Item
 }
 
 // The member at p.
-// Rules out a name's place that begins a byte late, and the kind of another value.
+// Rules out a name's place that begins a byte late, the kind of another value, and a member with no quotation mark before its name.
 pub fn entry_at(s: &[u8], p: usize, depth: usize) -> Entry
     requires { ⌜ p < length (now s) ⌝ }
-    ensures { λ r. ⌜ EntryAt (now (s .entry)) p depth r ⌝ }
+    ensures { λ r. ⌜ r ≡ entryAt (now (s .entry)) p depth ⌝ }
 {
+    if s[p] != 0x22 {
+        return no_entry();
+    }
     match string_end(s, p + 1) {
         End::At(q) => {
             match value_span(s, q, depth) {

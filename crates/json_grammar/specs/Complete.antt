@@ -32,7 +32,7 @@ use Rattle.json_grammar.specs.CharLaws.{complete-chars}
 
 -- WHAT FOLLOWS A VALUE
 
-stops-white : (w : Ws) (r : List ℕ) → Stops r → Stops (yieldMany w r)
+pub stops-white : (w : Ws) (r : List ℕ) → Stops r → Stops (yieldMany w r)
 unfolding yieldMany isDigit isE within
 stops-white none r st = st
 stops-white (more b h w) r st = white-cases (λ b. Stops (b ∷ yieldMany w r)) refl refl refl refl b h

@@ -9,6 +9,7 @@ pub mod Reader
 pub mod Levels
 pub mod Scan
 -- Theorems: what is derived is read (Complete), what is read is derived (Sound), a text has one reading (Unique),
+-- what is left is the end of what was given, and fuel that is enough changes nothing (Endings),
 -- the bytes at a member's places are its name and value (ShownLaws), the scan finds names twice (ScanLaws).
 pub mod ByteLaws
 pub mod ReaderLaws
@@ -19,6 +20,7 @@ pub mod NumberLaws
 pub mod Readings
 pub mod Complete
 pub mod Sound
+pub mod Endings
 pub mod Unique
 pub mod ShownLaws
 pub mod ScanLaws

@@ -38,6 +38,14 @@ one-inv p (b ∷ s) k a r e = go (p b) refl e
 pub expect-inv : {A : Type 0} (x : ℕ) (s : List ℕ) (k : List ℕ → Got A) (a : A) (r : List ℕ) → expect x s k ≡ got a r → (y : List ℕ) × (s ≡ x ∷ y) × (k y ≡ got a r)
 expect-inv x s k a r e = let i = one-inv (λ b. eqb b x) s (λ _ y. k y) a r e in (i .1, rw (eqb-true (i .0) x (i .3)) at (i .2), i .4)
 
+pub expect-over : {A B : Type 0} (x : ℕ) (l : List ℕ) (f : A → B) (k : List ℕ → Got A) → expect x l (λ y. over f (k y)) ≡ over f (expect x l k)
+expect-over x [] f k = refl
+expect-over {A} {B} x (b ∷ l) f k = go (eqb b x)
+  where
+    go : (t : Bool) → one-by t b l (λ _ y. over f (k y)) ≡ over f (one-by t b l (λ _ y. k y))
+    go true = refl
+    go false = refl
+
 pub deeper-inv : {A : Type 0} (d : ℕ) (k : ℕ → Got A) (a : A) (r : List ℕ) → deeper d k ≡ got a r → (e : ℕ) × (d ≡ suc e) × (k e ≡ got a r)
 deeper-inv zero k a r h = no-bad h
 deeper-inv (suc e) k a r h = (e, refl, h)

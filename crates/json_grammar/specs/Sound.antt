@@ -78,7 +78,7 @@ FoundArray d s r = (a : ArrayTree) × (s ≡ yieldArray a r) × (depthValues (re
 abbrev FoundObject : ℕ → List ℕ → List ℕ → Type 0
 FoundObject d s r = (o : ObjectTree) × (s ≡ yieldObject o r) × (depthMembers (readingObject o) ≤ d)
 
-abbrev FoundBare : ℕ → List ℕ → List ℕ → Type 0
+abbrev pub FoundBare : ℕ → List ℕ → List ℕ → Type 0
 FoundBare d s r = (v : ValueTree) × (s ≡ yieldValue v r) × (depth (readingValue v) ≤ d)
 
 -- white space that was skipped before x
@@ -273,6 +273,10 @@ levels : (n : ℕ) → Below n
 unfolding readValue
 levels zero = record { value = λ d s v r e. no-bad e; elements = λ d w s vs r e. no-bad e; members = λ d w s ms r e. no-bad e }
 levels (suc n) = record { value = spaced-value-sound n (levels n); elements = more-elements-sound n (levels n); members = more-members-sound n (levels n) }
+
+-- a value with no white space around it
+pub bare-found : (n d : ℕ) (s : List ℕ) (v : LValue) (r : List ℕ) → readBare n d s ≡ got v r → FoundBare d s r
+bare-found n d s v r e = value-sound n (levels n) d s v r e
 
 -- s is derived, at most d deep
 abbrev pub Derived : ℕ → List ℕ → Type 0

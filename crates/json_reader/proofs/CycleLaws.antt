@@ -1,14 +1,13 @@
 -- The readers that call one another: a law for each way through each function.
 use mathlib.Core.Path.{_≡_, refl, _∙_}
-use mathlib.Core.Bool.{Bool, true, false}
 use mathlib.Core.List.{List, [], _∷_}
-use Prim.Native.Nat.{ℕ, zero, suc, _≤_, _<_, _+_, _-_}
+use Prim.Native.Nat.{ℕ, suc, _≤_, _<_, _+_, _-_}
 use native.Mathlib.Omega.{arith}
-use lib.Dec.{eqb}
 use lib.ListN.{length, drop, getD}
 use borrow.Author.Tests.{eq-eqb, ne-eqb}
 use Rattle.json_grammar.specs.Value.{LMember, stringL, numberL, trueL, falseL, nullL, arrayL, objectL, item, named}
-use Rattle.json_grammar.specs.Reader.{Got, bad, got, over, one-by, expect, ws, deeper, upTo, valueLead, numberLead, placedItem, readChars, readValue, readMoreElements, readMoreMembers}
+use Rattle.json_grammar.specs.Reader.{Got, bad, got, over, expect, ws, deeper, upTo, valueLead, numberLead, readChars, readValue, readMoreElements, readMoreMembers}
+use Rattle.json_grammar.specs.ReaderLaws.{expect-over}
 use Rattle.json_grammar.specs.Sequences.{Sequence, listed, members, elements}
 use Rattle.json_grammar.specs.Levels.{readMembers}
 use Rattle.json_string.specs.declared.End.{End}
@@ -17,6 +16,7 @@ use Rattle.json_string.specs.Ends.{by, shorter}
 use Rattle.json_string.specs.Strings.{StringEnds}
 use Rattle.json_reader.specs.Contracts.{EndsBy, SkipsTo, WordEnds, NumberEnds, ValueEnds, BareEnds, ArrayEnds, ElementsEnd, ObjectEnds, MembersEnd, MemberEnds, AfterName}
 use Rattle.json_reader.specs.Contracts.{readTrimmed}
+use Rattle.json_reader.specs.ValueLaws.{no-trimmed, placed-at}
 use Rattle.json_reader.specs.EndsLaws.{given, none, bounds, earlier, same, wrong, out, first, first-below, first-same, first-only, first-bad, bind, bind-bad, map, renamed, moved, deepened}
 
 -- SEQUENCES, of elements and of members: one or more with commas between them, and the closing byte
@@ -85,14 +85,6 @@ module _ {s : List ℕ} {from at : ℕ} (d : ℕ) (k : SkipsTo s from at) where
   pub colon-out : length s ≤ at → AfterName s from d Bad
   colon-out h = colon-value (out h (λ n. refl))
 
-expect-over : {A B : Type 0} (x : ℕ) (l : List ℕ) (f : A → B) (k : List ℕ → Got A) → expect x l (λ y. over f (k y)) ≡ over f (expect x l k)
-expect-over x [] f k = refl
-expect-over {A} {B} x (b ∷ l) f k = go (eqb b x)
-  where
-    go : (t : Bool) → one-by t b l (λ _ y. over f (k y)) ≡ over f (one-by t b l (λ _ y. k y))
-    go true = refl
-    go false = refl
-
 string-ends : {s : List ℕ} {at : ℕ} {r : End} → StringEnds s at r → EndsBy readChars s at at r
 unfolding StringEnds
 string-ends h = record { ends = h }
@@ -157,29 +149,16 @@ module _ {s : List ℕ} {at : ℕ} {r : End} (d : ℕ) (h : at < length s) where
 
 -- A VALUE BETWEEN WHITE SPACE
 
-no-trimmed : (d n : ℕ) → readTrimmed n d [] ≡ bad
-unfolding readTrimmed
-no-trimmed d zero = refl
-no-trimmed d (suc n) = refl
-
-value-trimmed : (n d : ℕ) (x : List ℕ) → readValue n d x ≡ placedItem (ws x) (readTrimmed n d (ws x))
-unfolding readValue readTrimmed
-value-trimmed zero d x = refl
-value-trimmed (suc n) d x = refl
-
 module _ {s : List ℕ} {from at : ℕ} (d : ℕ) (k : SkipsTo s from at) where
-  pub placed-at : (n : ℕ) → readValue n d (drop from s) ≡ placedItem (drop at s) (readTrimmed n d (drop at s))
-  placed-at n = value-trimmed n d (drop from s) ∙ rw (k .is)
-
   pub value-is : {e j : ℕ} → BareEnds s at d (At e) → SkipsTo s e j → ValueEnds s from d (At j)
   value-is {e} {j} b w = record {
     ends = λ n i.
         let g = given b n (shorter s from at n (k .low) i) in
-        by s from (At j) _ (got (item (drop at s) (drop e s) (g .0)) (drop j s)) (placed-at n ∙ rw (g .1, w .is)) (omega (arith, k .low, bounds b .0, w .low), w .high, refl);
+        by s from (At j) _ (got (item (drop at s) (drop e s) (g .0)) (drop j s)) (placed-at d k n ∙ rw (g .1, w .is)) (omega (arith, k .low, bounds b .0, w .low), w .high, refl);
   }
 
   pub value-bad : BareEnds s at d Bad → ValueEnds s from d Bad
-  value-bad b = record { ends = λ n i. by s from Bad _ bad (placed-at n ∙ rw (none b n (shorter s from at n (k .low) i))) tt }
+  value-bad b = record { ends = λ n i. by s from Bad _ bad (placed-at d k n ∙ rw (none b n (shorter s from at n (k .low) i))) tt }
 
   pub value-out : length s ≤ at → ValueEnds s from d Bad
   value-out h = value-bad (out h (no-trimmed d))

@@ -1,48 +1,23 @@
 -- The place of a member's value, and the whole text: a law for each way through each function.
 use mathlib.Core.Path.{_≡_, refl, sym, ap, _∙_, subst}
 use mathlib.Core.Bool.{Bool, true, false}
-use mathlib.Core.List.{List, [], _∷_}
-use Prim.Native.Nat.{ℕ, zero, suc, _≤_, _<_, _+_}
+use mathlib.Core.List.{List}
+use Prim.Native.Nat.{ℕ, _≤_, _<_, _+_}
 use native.Mathlib.Omega.{arith}
 use lib.Dec.{eqb}
 use lib.ListN.{length, drop, getD, drop-of-length-le}
 use borrow.Author.Tests.{eqb-true, eqb-false, ne-eqb}
-use Rattle.json_grammar.specs.Value.{LValue, LItem, LMembers, item, plain}
-use Rattle.json_grammar.specs.Places.{kindOf}
-use Rattle.json_grammar.specs.Reader.{Got, bad, got, then, over, expect, ws, word, placedItem, ends-by, readChars, readNumber}
-use Rattle.json_grammar.specs.Reader.{ValueLead, quoteLead, bracketLead, braceLead, trueLead, falseLead, nullLead, numberLead, valueLead}
-use Rattle.json_grammar.specs.Reader.{value-by, readValue, readMoreElements, readMoreMembers, readObject, read}
+use Rattle.json_grammar.specs.Value.{LItem, LMembers, item}
+use Rattle.json_grammar.specs.Reader.{Got, got, then, expect, ws, placedItem, ends-by}
+use Rattle.json_grammar.specs.Reader.{readObject, read}
 use Rattle.json_grammar.specs.Unique.{isGot}
 use Rattle.json_string.specs.declared.End.{End}
 use Rattle.json_string.specs.declared.End.the-variants.{At, Bad}
 use Rattle.json_reader.specs.declared.values.Span.the-variants.{Found, Nowhere}
 use Rattle.json_string.specs.Ends.{at-byte, shorter}
-use Rattle.json_reader.specs.Contracts.{EndsBy, SkipsTo, BareEnds, ObjectEnds, AfterName, readTrimmed, readArray, readAfterName, kindBy, Spans, SpanAt, isText}
+use Rattle.json_reader.specs.Contracts.{EndsBy, SkipsTo, BareEnds, ObjectEnds, AfterName, readTrimmed, readAfterName, Spans, SpanAt, isText}
 use Rattle.json_reader.specs.EndsLaws.{given, none, bounds, done, out, first, first-bad, bind, bind-bad, moved}
-use Rattle.json_reader.proofs.CycleLaws.{placed-at}
-
--- THE KIND OF A VALUE, by its first byte
-
-over-kind : {A : Type 0} {v : LValue} {y : List ℕ} (f : A → LValue) (t : ValueLead) → ((a : A) → kindOf (plain (f a)) ≡ kindBy t) → (g : Got A) → over f g ≡ got v y
-    → kindOf (plain v) ≡ kindBy t
-over-kind f t k bad e = let z : _≡_ {A = ℕ} 0 1 = cc in absurd (omega arith)
-over-kind {A} {v} {y} f t k (got a x) e = let z : f a ≡ v = cc in rw z at (k a)
-
-value-kind : {v : LValue} {y : List ℕ} (n d : ℕ) (t : ValueLead) (b : ℕ) (x : List ℕ)
-    → value-by n (λ e r. readValue n e r) (λ e r. readMoreElements n e r) (λ e r. readMoreMembers n e r) d t b x ≡ got v y → kindOf (plain v) ≡ kindBy t
-unfolding kindBy kindOf plain
-value-kind n d quoteLead b x e = over-kind _ quoteLead (λ a. refl) (readChars n x) e
-value-kind n d bracketLead b x e = over-kind _ bracketLead (λ a. refl) (readArray n d x) e
-value-kind n d braceLead b x e = over-kind _ braceLead (λ a. refl) (readObject n d x) e
-value-kind n d trueLead b x e = over-kind _ trueLead (λ a. refl) (word (0x72 ∷ 0x75 ∷ 0x65 ∷ []) x) e
-value-kind n d falseLead b x e = over-kind _ falseLead (λ a. refl) (word (0x61 ∷ 0x6C ∷ 0x73 ∷ 0x65 ∷ []) x) e
-value-kind n d nullLead b x e = over-kind _ nullLead (λ a. refl) (word (0x75 ∷ 0x6C ∷ 0x6C ∷ []) x) e
-value-kind n d numberLead b x e = over-kind _ numberLead (λ a. refl) (readNumber (b ∷ x)) e
-
-trimmed-kind : {v : LValue} {y : List ℕ} (n d b : ℕ) (x : List ℕ) → readTrimmed n d (b ∷ x) ≡ got v y → kindOf (plain v) ≡ kindBy (valueLead b)
-unfolding readTrimmed
-trimmed-kind zero d b x e = let z : _≡_ {A = ℕ} 0 1 = cc in absurd (omega arith)
-trimmed-kind (suc n) d b x e = value-kind n d (valueLead b) b x e
+use Rattle.json_reader.specs.ValueLaws.{trimmed-kind, placed-at}
 
 -- THE PLACE OF A MEMBER'S VALUE
 

@@ -8,6 +8,7 @@ use Rattle.jose_rules.specs.Names.{crit, fmt}
 use Rattle.jose.proofs.SlotLaws.{stands-as}
 use Rattle.jose.proofs.KindLaws.{first-as}
 use Rattle.jose.proofs.CriticalLaws.{Strings, strings-at, lists-absent, lists-empty, lists-other, lists-more, lists-one}
+use Rattle.json.specs.StepLaws.{first-element, item-at}
 use borrow.Author.Needs.{needs}
 use native.Mathlib.Omega.{arith}
 use Rattle.jose.proofs.critical.lists_format.Statement.{statement}
@@ -44,7 +45,7 @@ sub-item-at : tie.Need-sub-item-at
 sub-item-at c = search needs
 
 item-at-requires : tie.Need-item-at-requires
-item-at-requires c κs = let l = c .before .before .before .first-element .ensures .within _ (c .before .p .given .1) in omega arith
+item-at-requires c κs = let l = first-element _ _ (c .before .before .before .first-element .ensures) .within _ (c .before .p .given .1) in omega arith
 
 slice-aggregate-text-is : tie.Need-slice-aggregate-text-is
 slice-aggregate-text-is c = search needs
@@ -59,15 +60,15 @@ enum-told-4 : tie.Need-enum-told-4
 enum-told-4 c = search needs
 
 returns-3 : tie.Need-returns-3
-returns-3 c = lists-more (array (c .before .before .before .before .before .before .before .before .before .before .before)) (first (c .before .before .before .before .before .before .before)) (c .before .before .before .before .before .before .item-at .ensures) (c .enum-told3 .given .1)
+returns-3 c = lists-more (array (c .before .before .before .before .before .before .before .before .before .before .before)) (first (c .before .before .before .before .before .before .before)) (item-at _ _ _ (c .before .before .before .before .before .before .item-at .ensures)) (c .enum-told3 .given .1)
 
 returns-4 : tie.Need-returns-4
 unfolding ascii fmt
-returns-4 c = lists-one (array (c .before .before .before .before .before .before .before .before .before .before .before)) (first (c .before .before .before .before .before .before .before)) (c .before .before .before .before .before .before .item-at .ensures) _ (c .before .before .before .text-is .ensures) (c .before .before .if1 .taken) (c .enum-told4 .given .1)
+returns-4 c = lists-one (array (c .before .before .before .before .before .before .before .before .before .before .before)) (first (c .before .before .before .before .before .before .before)) (item-at _ _ _ (c .before .before .before .before .before .before .item-at .ensures)) _ (c .before .before .before .text-is .ensures) (c .before .before .if1 .taken) (c .enum-told4 .given .1)
 
 returns-5 : tie.Need-returns-5
 unfolding ascii fmt
-returns-5 c = lists-other (array (c .before .before .before .before .before .before .before .before .before)) (first (c .before .before .before .before .before)) (c .before .before .before .before .item-at .ensures) _ (c .before .text-is .ensures) (c .if1 .left)
+returns-5 c = lists-other (array (c .before .before .before .before .before .before .before .before .before)) (first (c .before .before .before .before .before)) (item-at _ _ _ (c .before .before .before .before .item-at .ensures)) _ (c .before .text-is .ensures) (c .if1 .left)
 
 pub lists-format-spec : {M : Type 1} → statement M
 lists-format-spec =

@@ -7,6 +7,7 @@ use Rattle.jose_rules.specs.Members.{strings}
 use Rattle.jose.specs.Slots.{Stands}
 use Rattle.jose.proofs.SlotLaws.{stands-as, array-at, wrong-absent}
 use Rattle.jose.proofs.KindLaws.{first-as, no-strings-from, no-strings-empty, no-strings-other}
+use Rattle.json.specs.StepLaws.{first-element}
 use borrow.Author.Needs.{needs}
 use Rattle.jose.proofs.kinds.no_strings.Statement.{statement}
 use Rattle.jose.proofs.kinds.no_strings.Tie as tie
@@ -33,7 +34,7 @@ enum-known-from : tie.Need-enum-known-from
 enum-known-from c = search needs
 
 strings-from-requires : tie.Need-strings-from-requires
-strings-from-requires c κs = c .before .before .before .first-element .ensures .within _ (c .before .from .given .1)
+strings-from-requires c κs = first-element _ _ (c .before .before .before .first-element .ensures) .within _ (c .before .from .given .1)
 
 returns-2 : tie.Need-returns-2
 returns-2 c = no-strings-from (there (c .before .before .before .before .before .before .before)) (sym (c .before .before .before .before .before .before .is-array .ensures) ∙ c .before .before .before .before .before .if1 .taken) (first-as (c .before .before .before .before .first-element .ensures) (c .before .before .from .given .1)) (c .strings-from .ensures)

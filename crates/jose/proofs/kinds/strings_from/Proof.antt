@@ -4,6 +4,7 @@ use mathlib.Core.Bool.{Bool}
 use lib.ListN.{length}
 use Rattle.jose.specs.Slots.{StringsFrom}
 use Rattle.jose.proofs.KindLaws.{strings-next, strings-last, strings-other}
+use Rattle.json.specs.StepLaws.{item-at}
 use borrow.Author.Needs.{needs}
 use native.Mathlib.Omega.{arith}
 use Rattle.jose.proofs.kinds.strings_from.Statement.{statement}
@@ -31,19 +32,19 @@ enum-known-next : tie.Need-enum-known-next Inv-loop μ-loop
 enum-known-next c = search needs
 
 loop-less : tie.Need-loop-less Inv-loop μ-loop
-loop-less c = let l = c .before .before .before .before .before .item-at .ensures .later _ (c .before .next .given .1) in omega arith
+loop-less c = let l = item-at _ _ _ (c .before .before .before .before .before .item-at .ensures) .later _ (c .before .next .given .1) in omega arith
 
 loop-again : tie.Need-loop-again Inv-loop μ-loop
-loop-again c = (c .before .before .before .before .before .item-at .ensures .later _ (c .before .next .given .1) .1, λ r w. c .before .before .before .before .before .before .loop .inv .1 r (strings-next (c .before .before .before .before .before .item-at .ensures) (c .before .before .before .before .is-string .ensures) (c .before .before .before .if1 .taken) (c .before .next .given .1) w))
+loop-again c = (item-at _ _ _ (c .before .before .before .before .before .item-at .ensures) .later _ (c .before .next .given .1) .1, λ r w. c .before .before .before .before .before .before .loop .inv .1 r (strings-next (item-at _ _ _ (c .before .before .before .before .before .item-at .ensures)) (c .before .before .before .before .is-string .ensures) (c .before .before .before .if1 .taken) (c .before .next .given .1) w))
 
 enum-told : tie.Need-enum-told Inv-loop μ-loop
 enum-told c = search needs
 
 returns : tie.Need-returns Inv-loop μ-loop
-returns c = c .before .before .before .before .before .loop .inv .1 _ (strings-last (c .before .before .before .before .item-at .ensures) (c .before .before .before .is-string .ensures) (c .before .before .if1 .taken) (c .enum-told .given .1))
+returns c = c .before .before .before .before .before .loop .inv .1 _ (strings-last (item-at _ _ _ (c .before .before .before .before .item-at .ensures)) (c .before .before .before .is-string .ensures) (c .before .before .if1 .taken) (c .enum-told .given .1))
 
 returns-2 : tie.Need-returns-2 Inv-loop μ-loop
-returns-2 c = c .before .before .before .loop .inv .1 _ (strings-other (c .before .before .item-at .ensures) (c .before .is-string .ensures) (c .if1 .left))
+returns-2 c = c .before .before .before .loop .inv .1 _ (strings-other (item-at _ _ _ (c .before .before .item-at .ensures)) (c .before .is-string .ensures) (c .if1 .left))
 
 pub strings-from-spec : {M : Type 1} → statement M
 strings-from-spec =

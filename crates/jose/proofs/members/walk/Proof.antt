@@ -2,6 +2,7 @@
 use Prim.Native.Nat.{_-_, _<_}
 use lib.ListN.{length}
 use Rattle.jose.proofs.WalkLaws.{Walking, walk-start, walk-next, walk-end}
+use Rattle.json.specs.StepLaws.{entry-at}
 use borrow.Author.Needs.{needs}
 use native.Mathlib.Omega.{arith}
 use Rattle.jose.proofs.members.walk.Statement.{statement}
@@ -29,16 +30,16 @@ enum-known-next : tie.Need-enum-known-next Inv-loop μ-loop
 enum-known-next c = search needs
 
 loop-less : tie.Need-loop-less Inv-loop μ-loop
-loop-less c = let l = c .before .before .before .before .entry-at .ensures .later _ (c .before .next .given .1) in omega arith
+loop-less c = let l = entry-at _ _ _ (c .before .before .before .before .entry-at .ensures) .later _ (c .before .next .given .1) in omega arith
 
 loop-again : tie.Need-loop-again Inv-loop μ-loop
-loop-again c = (c .before .before .before .before .entry-at .ensures .later _ (c .before .next .given .1) .1, walk-next (c .before .before .before .before .before .loop .inv .1) (c .before .before .before .before .entry-at .ensures) (c .before .before .before .noted .ensures) (c .before .next .given .1))
+loop-again c = (entry-at _ _ _ (c .before .before .before .before .entry-at .ensures) .later _ (c .before .next .given .1) .1, walk-next (c .before .before .before .before .before .loop .inv .1) (entry-at _ _ _ (c .before .before .before .before .entry-at .ensures)) (c .before .before .before .noted .ensures) (c .before .next .given .1))
 
 enum-told : tie.Need-enum-told Inv-loop μ-loop
 enum-told c = search needs
 
 returns : tie.Need-returns Inv-loop μ-loop
-returns c = walk-end (c .before .before .before .before .loop .inv .1) (c .before .before .before .entry-at .ensures) (c .before .before .noted .ensures) (c .enum-told .given .1)
+returns c = walk-end (c .before .before .before .before .loop .inv .1) (entry-at _ _ _ (c .before .before .before .entry-at .ensures)) (c .before .before .noted .ensures) (c .enum-told .given .1)
 
 pub walk-spec : {M : Type 1} → statement M
 walk-spec =

@@ -1,5 +1,6 @@
 -- `member` meets its contract.
 use borrow.Author.Needs.{needs}
+use Rattle.json.specs.StepLaws.{top-members}
 use Rattle.json.proofs.HeaderLaws as law
 use Rattle.json.proofs.header.member.Statement.{statement}
 use Rattle.json.proofs.header.member.Tie as tie
@@ -17,16 +18,16 @@ sub-nth-member : tie.Need-sub-nth-member
 sub-nth-member c = search needs
 
 nth-member-requires : tie.Need-nth-member-requires
-nth-member-requires c κs = c .before .before .before .top-members .ensures .within _ (c .before .p .given .1)
+nth-member-requires c κs = top-members _ (c .before .before .before .top-members .ensures) .within _ (c .before .p .given .1)
 
 returns : tie.Need-returns
-returns c = law.member-picked _ _ (c .before .before .before .before .before .before .check .ensures) (c .before .before .before .before .before .if1 .taken) (law.tops (c .before .before .p .given .1) (c .before .before .before .before .top-members .ensures)) (c .nth-member .ensures)
+returns c = law.member-picked _ _ (c .before .before .before .before .before .before .check .ensures) (c .before .before .before .before .before .if1 .taken) (law.tops _ (c .before .before .p .given .1) (c .before .before .before .before .top-members .ensures)) (c .nth-member .ensures)
 
 enum-told : tie.Need-enum-told
 enum-told c = search needs
 
 returns-2 : tie.Need-returns-2
-returns-2 c = law.member-none _ _ (c .before .before .before .before .check .ensures) (c .before .before .before .if1 .taken) (law.tops (c .enum-told .given .1) (c .before .before .top-members .ensures))
+returns-2 c = law.member-none _ _ (c .before .before .before .before .check .ensures) (c .before .before .before .if1 .taken) (law.tops _ (c .enum-told .given .1) (c .before .before .top-members .ensures))
 
 returns-3 : tie.Need-returns-3
 returns-3 c = law.member-refused _ _ _ (c .before .check .ensures) (c .if1 .left)

@@ -3,6 +3,7 @@ use Prim.Native.Nat.{_<_}
 use native.Mathlib.Omega.{arith}
 use lib.ListN.{length}
 use borrow.Author.Needs.{needs}
+use Rattle.json.specs.StepLaws.{entry-at}
 use Rattle.json.specs.declared.places.Member.{Member}
 use Rattle.json.specs.Answers.{Picks}
 use Rattle.json.proofs.HeaderLaws as law
@@ -25,7 +26,7 @@ shown-requires : tie.Need-shown-requires Inv-loop μ-loop
 shown-requires c κs = search needs
 
 returns : tie.Need-returns Inv-loop μ-loop
-returns c = c .before .before .before .before .before .loop .inv .1 _ (law.pick-here _ (c .before .before .before .before .entry-at .ensures) (c .before .before .before .if1 .taken) (c .shown .ensures))
+returns c = c .before .before .before .before .before .loop .inv .1 _ (law.pick-here _ (entry-at _ _ _ (c .before .before .before .before .entry-at .ensures)) (c .before .before .before .if1 .taken) (c .shown .ensures))
 
 enum-known-next : tie.Need-enum-known-next Inv-loop μ-loop
 enum-known-next c = search needs
@@ -37,13 +38,13 @@ loop-less : tie.Need-loop-less Inv-loop μ-loop
 loop-less c = omega arith
 
 loop-again : tie.Need-loop-again Inv-loop μ-loop
-loop-again c = (c .before .before .before .before .entry-at .ensures .later _ (c .before .next .given .1) .1, λ r h. c .before .before .before .before .before .loop .inv .1 r (law.pick-next _ (c .before .before .before .before .entry-at .ensures) _ (c .before .before .before .if1 .left) (c .before .next .given .1) h))
+loop-again c = (entry-at _ _ _ (c .before .before .before .before .entry-at .ensures) .later _ (c .before .next .given .1) .1, λ r h. c .before .before .before .before .before .loop .inv .1 r (law.pick-next _ (entry-at _ _ _ (c .before .before .before .before .entry-at .ensures)) _ (c .before .before .before .if1 .left) (c .before .next .given .1) h))
 
 enum-told : tie.Need-enum-told Inv-loop μ-loop
 enum-told c = search needs
 
 returns-2 : tie.Need-returns-2 Inv-loop μ-loop
-returns-2 c = c .before .before .before .before .loop .inv .1 _ (law.pick-none _ (c .before .before .before .entry-at .ensures) _ (c .before .before .if1 .left) (c .enum-told .given .1))
+returns-2 c = c .before .before .before .before .loop .inv .1 _ (law.pick-none _ (entry-at _ _ _ (c .before .before .before .entry-at .ensures)) _ (c .before .before .if1 .left) (c .enum-told .given .1))
 
 pub nth-member-spec : {M : Type 1} → statement M
 nth-member-spec =

@@ -1,5 +1,5 @@
 -- `top_members` meets its contract.
-use Rattle.json.proofs.HeaderLaws as law
+use Rattle.json.proofs.StepPaths as law
 use borrow.Author.Needs.{needs}
 use Rattle.json.proofs.header.top_members.Statement.{statement}
 use Rattle.json.proofs.header.top_members.Tie as tie

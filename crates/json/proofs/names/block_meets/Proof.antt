@@ -5,6 +5,7 @@ use Prim.Native.Nat.{_+_, _-_, _≤_, _<_}
 use native.Mathlib.Omega.{arith}
 use lib.ListN.{length}
 use borrow.Author.Needs.{needs}
+use Rattle.json.specs.StepLaws.{entry-at}
 use Rattle.json.specs.Twice.{Meets}
 use Rattle.json.proofs.NameLaws.{Without}
 use Rattle.json.proofs.NameLaws as law
@@ -69,16 +70,16 @@ enum-known-next : tie.Need-enum-known-next Inv-loop μ-loop Inv-pairs μ-pairs
 enum-known-next c = search needs
 
 pairs-less : tie.Need-pairs-less Inv-loop μ-loop Inv-pairs μ-pairs
-pairs-less c = let k = c .before .before .before .entry-at .ensures .later _ (c .before .next .given .1) in omega (arith, k .0, k .1)
+pairs-less c = let k = entry-at _ _ _ (c .before .before .before .entry-at .ensures) .later _ (c .before .next .given .1) in omega (arith, k .0, k .1)
 
 pairs-again : tie.Need-pairs-again Inv-loop μ-loop Inv-pairs μ-pairs
-pairs-again c = (c .before .before .before .entry-at .ensures .later _ (c .before .next .given .1) .1, λ r h. c .before .before .before .before .before .before .before .pairs .inv .1 r (law.meets-next _ (law.without-all (c .before .before .before .before .before .loop .inv .1) (c .before .before .before .before .before .loop .inv .0) (c .before .before .before .before .loop-test .left)) (c .before .before .before .entry-at .ensures) (c .before .next .given .1) h))
+pairs-again c = (entry-at _ _ _ (c .before .before .before .entry-at .ensures) .later _ (c .before .next .given .1) .1, λ r h. c .before .before .before .before .before .before .before .pairs .inv .1 r (law.meets-next _ (law.without-all (c .before .before .before .before .before .loop .inv .1) (c .before .before .before .before .before .loop .inv .0) (c .before .before .before .before .loop-test .left)) (entry-at _ _ _ (c .before .before .before .entry-at .ensures)) (c .before .next .given .1) h))
 
 enum-told : tie.Need-enum-told Inv-loop μ-loop Inv-pairs μ-pairs
 enum-told c = search needs
 
 returns : tie.Need-returns Inv-loop μ-loop Inv-pairs μ-pairs
-returns c = c .before .before .before .before .before .before .pairs .inv .1 _ (law.meets-last _ (law.without-all (c .before .before .before .before .loop .inv .1) (c .before .before .before .before .loop .inv .0) (c .before .before .before .loop-test .left)) (c .before .before .entry-at .ensures) (c .enum-told .given .1))
+returns c = c .before .before .before .before .before .before .pairs .inv .1 _ (law.meets-last _ (law.without-all (c .before .before .before .before .loop .inv .1) (c .before .before .before .before .loop .inv .0) (c .before .before .before .loop-test .left)) (entry-at _ _ _ (c .before .before .entry-at .ensures)) (c .enum-told .given .1))
 
 returns-2 : tie.Need-returns-2 Inv-loop μ-loop Inv-pairs μ-pairs
 returns-2 c = c .before .before .before .before .before .before .before .pairs .inv .1 _ (law.meets-found _ _ _ _ (c .before .before .before .before .loop-test .taken) (sym (c .before .same-by-fingerprint .ensures) ∙ c .if1 .taken))

@@ -5,6 +5,7 @@ use Prim.Native.Nat.{_+_, _-_, _≤_}
 use native.Mathlib.Omega.{arith}
 use lib.ListN.{length}
 use borrow.Author.Needs.{needs}
+use Rattle.json.specs.StepLaws.{entry-at}
 use Rattle.json.specs.Twice.{Fingerprinted}
 use Rattle.json.proofs.NameLaws.{Without, Filling}
 use Rattle.json.proofs.NameLaws as law
@@ -106,14 +107,14 @@ pairs-again c =
       simp length-set (i .1),
       simp length-set (i .2),
       law.fingerprinted-next (i .3) _ _ (c .before .before .before .before .before .before .fingerprint .ensures) (omega (arith, i .1)) (omega (arith, i .2)),
-      law.filling-next _ (i .4) (law.without-all (c .before .before .before .before .before .loop .inv .1) (c .before .before .before .before .before .loop .inv .0) (c .before .before .before .before .loop-test .left)) (c .before .before .before .entry-at .ensures) (c .before .next .given .1) (omega (arith, i .1)),
+      law.filling-next _ (i .4) (law.without-all (c .before .before .before .before .before .loop .inv .1) (c .before .before .before .before .before .loop .inv .0) (c .before .before .before .before .loop-test .left)) (entry-at _ _ _ (c .before .before .before .entry-at .ensures)) (c .before .next .given .1) (omega (arith, i .1)),
     )
 
 enum-told : tie.Need-enum-told Inv-loop μ-loop Inv-pairs μ-pairs
 enum-told c = search needs
 
 returns-3 : tie.Need-returns-3 Inv-loop μ-loop Inv-pairs μ-pairs
-returns-3 c = law.filling-last _ (c .before .before .before .before .before .before .before .pairs .inv .4) (law.without-all (c .before .before .before .before .loop .inv .1) (c .before .before .before .before .loop .inv .0) (c .before .before .before .loop-test .left)) (c .before .before .entry-at .ensures) (c .enum-told .given .1)
+returns-3 c = law.filling-last _ (c .before .before .before .before .before .before .before .pairs .inv .4) (law.without-all (c .before .before .before .before .loop .inv .1) (c .before .before .before .before .loop .inv .0) (c .before .before .before .loop-test .left)) (entry-at _ _ _ (c .before .before .entry-at .ensures)) (c .enum-told .given .1)
 
 returns-4 : tie.Need-returns-4 Inv-loop μ-loop Inv-pairs μ-pairs
 returns-4 c = law.filling-found _ (c .before .before .before .before .before .before .pairs .inv .4) _ (c .before .before .loop-test .taken) (sym (c .before .same-by-fingerprint .ensures) ∙ c .if3 .taken)

@@ -1,5 +1,5 @@
 -- `first_element` meets its contract.
-use Rattle.json.proofs.SequenceLaws as law
+use Rattle.json.specs.Steps.{firstElement}
 use borrow.Author.Needs.{needs}
 use Rattle.json.proofs.steps.first_element.Statement.{statement}
 use Rattle.json.proofs.steps.first_element.Tie as tie
@@ -8,7 +8,8 @@ inside-requires : tie.Need-inside-requires
 inside-requires c κs = search needs
 
 returns : tie.Need-returns
-returns c = law.first-element _ _ _ (c .inside .ensures)
+unfolding firstElement
+returns c = c .inside .ensures
 
 pub first-element-spec : {M : Type 1} → statement M
 first-element-spec = tie.close (tie.spec inside-requires returns)

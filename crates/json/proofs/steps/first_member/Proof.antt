@@ -1,5 +1,5 @@
 -- `first_member` meets its contract.
-use Rattle.json.proofs.SequenceLaws as law
+use Rattle.json.specs.Steps.{firstMember}
 use borrow.Author.Needs.{needs}
 use Rattle.json.proofs.steps.first_member.Statement.{statement}
 use Rattle.json.proofs.steps.first_member.Tie as tie
@@ -8,7 +8,8 @@ inside-requires : tie.Need-inside-requires
 inside-requires c κs = search needs
 
 returns : tie.Need-returns
-returns c = law.first-member _ _ _ (c .inside .ensures)
+unfolding firstMember
+returns c = c .inside .ensures
 
 pub first-member-spec : {M : Type 1} → statement M
 first-member-spec = tie.close (tie.spec inside-requires returns)

@@ -1,5 +1,5 @@
 -- `inside` meets its contract.
-use native.Mathlib.Omega.{arith}
+use Rattle.json.proofs.StepPaths as law
 use borrow.Author.Needs.{needs}
 use Rattle.json.proofs.steps.inside.Statement.{statement}
 use Rattle.json.proofs.steps.inside.Tie as tie
@@ -14,13 +14,13 @@ shared-slice-read-if2 : tie.Need-shared-slice-read-if2
 shared-slice-read-if2 c = search needs
 
 returns : tie.Need-returns
-returns c = (_, c .before .before .before .skip-ws .ensures, λ h. c .if2 .taken)
+returns c = law.first-closed _ (c .before .before .before .skip-ws .ensures) (c .before .before .if1 .taken) (c .if2 .taken)
 
 returns-2 : tie.Need-returns-2
-returns-2 c = (c .before .before .before .skip-ws .ensures, c .before .before .if1 .taken, c .if2 .left)
+returns-2 c = law.first-found _ (c .before .before .before .skip-ws .ensures) (c .before .before .if1 .taken) (c .if2 .left)
 
 returns-3 : tie.Need-returns-3
-returns-3 c = (_, c .before .skip-ws .ensures, λ h. absurd (omega (arith, c .if1 .left)))
+returns-3 c = law.first-out _ (c .before .skip-ws .ensures) (c .if1 .left)
 
 pub inside-spec : {M : Type 1} → statement M
 inside-spec =

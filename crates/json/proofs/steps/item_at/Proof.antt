@@ -1,7 +1,7 @@
 -- `item_at` meets its contract.
 use native.Mathlib.Omega.{arith}
 use Rattle.json_reader.specs.EndsLaws.{bounds, ended}
-use Rattle.json.proofs.StepLaws as law
+use Rattle.json.proofs.StepPaths as law
 use borrow.Author.Needs.{needs}
 use Rattle.json.proofs.steps.item_at.Statement.{statement}
 use Rattle.json.proofs.steps.item_at.Tie as tie
