@@ -1,22 +1,15 @@
 -- What decoding and encoding answer, and what the lent buffer holds afterwards.
 use mathlib.Core.Bool.{cond}
-use mathlib.Core.List.{List, _++_}
+use mathlib.Core.List.{List}
 use mathlib.Core.Option.{Option, none, some}
 use Prim.Native.Nat.{ℕ}
 use lib.Dec.{leb}
-use lib.ListN.{length, drop, replicate}
+use lib.ListN.{length}
+pub use Rattle.common.specs.Buffer.{laid, cleared}
 use Rattle.base64url.specs.Base64url.{encode, decode}
 use Rattle.base64url.specs.Fault.{fault}
 use Rattle.base64url.specs.declared.Decoded.{Decoded}
 use Rattle.base64url.specs.declared.Encoded.{Encoded}
-
--- the buffer with s at its front, and then what it held before
-abbrev pub laid : List ℕ → List ℕ → List ℕ
-laid s out = s ++ drop (length s) out
-
--- the buffer with every byte 0
-abbrev pub cleared : List ℕ → List ℕ
-cleared out = replicate (length out) 0
 
 -- an answer, and what the buffer holds then
 pub record Decoding : Type 0 where

@@ -1,4 +1,4 @@
--- What a lent buffer holds: some bytes and then zeros; and laws of lists of one repeated number.
+-- What a lent buffer holds: some bytes, and then zeros or what it held before; and laws of lists of one repeated number.
 use mathlib.Core.Path.{_≡_, refl, ap, sym, _∙_}
 use mathlib.Core.List.{List, [], _∷_, _++_}
 use Prim.Native.Nat.{ℕ, zero, suc, _+_, _-_, _≤_}
@@ -9,6 +9,14 @@ use lib.ListN.{length, take, drop, replicate, length-append, length-replicate}
 -- `room` bytes: s, and then zeros
 abbrev pub filled : ℕ → List ℕ → List ℕ
 filled room s = s ++ replicate (room - length s) 0
+
+-- the buffer with s at its front, and then what it held before
+abbrev pub laid : List ℕ → List ℕ → List ℕ
+laid s out = s ++ drop (length s) out
+
+-- the buffer with every byte 0
+abbrev pub cleared : List ℕ → List ℕ
+cleared out = replicate (length out) 0
 
 pub take-replicate : (a n m : ℕ) → n ≤ m → take n (replicate m a) ≡ replicate n a
 take-replicate a zero m h = refl

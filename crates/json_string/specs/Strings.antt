@@ -1,10 +1,11 @@
 -- What the public functions' contracts cite: characters and strings at places of a slice.
 use mathlib.Core.Path.{_≡_}
 use mathlib.Core.Bool.{Bool, false, cond}
-use mathlib.Core.List.{List, [], _∷_, _++_}
+use mathlib.Core.List.{List, [], _∷_}
 use Prim.Native.Nat.{ℕ, _+_, _*_, _%_, _≤_}
 use lib.Dec.{leb}
-use lib.ListN.{length, drop, replicate}
+use lib.ListN.{length, drop}
+use Rattle.common.specs.Buffer.{laid, cleared}
 use Rattle.common.specs.Same.{same}
 use Rattle.json_grammar.specs.Reader.{Got, bad, got, readChar, readChars}
 use Rattle.json_string.specs.Ends.{Ends}
@@ -75,11 +76,11 @@ unfoldable pub resolved : List ℕ → List ℕ → Resolved
 resolved old u = cond (leb (length u) (length old)) (Bytes (length u)) Nothing
 
 unfoldable pub resolvedTo : List ℕ → List ℕ → List ℕ
-resolvedTo old u = cond (leb (length u) (length old)) (u ++ drop (length u) old) (replicate (length old) 0)
+resolvedTo old u = cond (leb (length u) (length old)) (laid u old) (cleared old)
 
 -- the same of resolving the string at p; nothing, and zeros, where no string stands
 unfoldable pub resolvedAt : List ℕ → ℕ → List ℕ → Resolved
 resolvedAt s p old = given (λ cs. resolved old (utf8 cs)) Nothing (textAt s p)
 
 unfoldable pub resolvedToAt : List ℕ → ℕ → List ℕ → List ℕ
-resolvedToAt s p old = given (λ cs. resolvedTo old (utf8 cs)) (replicate (length old) 0) (textAt s p)
+resolvedToAt s p old = given (λ cs. resolvedTo old (utf8 cs)) (cleared old) (textAt s p)
