@@ -28,12 +28,12 @@ use Rattle.jws_rules.specs.Segments.{periods, front, back}
 use Rattle.jws_rules.specs.Token.{tokenMost, headerOf, payloadOf, signatureOf, sentInput, secretOf}
 use Rattle.jws_rules.specs.Outcomes.{recordOf}
 use Rattle.jws_rules.specs.Tests.{choiceOf, verifyTests}
-use Rattle.jws.specs.declared.signature.Signature.{Signature}
-use Rattle.jws.specs.declared.opening.Opened.{Opened}
-use Rattle.jws.specs.SplitLaws.{Places}
-use Rattle.jws.specs.Opening.{segmentTests, Holds, isMac, Opens}
+use Rattle.jws_segments.specs.declared.signature.Signature.{Signature}
+use Rattle.jws_segments.specs.declared.opening.Opened.{Opened}
+use Rattle.jws_segments.specs.SplitLaws.{Places}
+use Rattle.jws_segments.specs.Opening.{segmentTests, Holds, isMac, Opens}
 use Rattle.jws.specs.Judging.{macTests, headerTests, laterTests, refusalOf, acceptanceOf, concluded, decidedAs, Judged, refusing, accepting}
-use Rattle.jws.proofs.OpenLaws.{Clear, clear}
+use Rattle.jws_segments.specs.OpenLaws.{Clear, clear}
 
 -- a refusal, under the number that stands
 judged-refusal : {t T hb pb : List ℕ} {n m : ℕ} {r : Verified} → m ≡ n → (n ≡ 0 → ⊥) → r ≡ refusalOf n → Judged t T hb pb m r

@@ -18,8 +18,8 @@ use Rattle.jws_rules.specs.Segments.{front, back}
 use Rattle.jws_rules.specs.Token.{headerOf, payloadOf, signatureOf, sentInput, secretOf}
 use Rattle.jws_rules.specs.Outcomes.{recordOf, zeroRecord}
 use Rattle.jws_rules.specs.Tests.{choiceOf}
-use Rattle.jws.specs.declared.opening.Opened.{Opened}
-use Rattle.jws.specs.Opening.{segmentTests, isMac}
+use Rattle.jws_segments.specs.declared.opening.Opened.{Opened}
+use Rattle.jws_segments.specs.Opening.{segmentTests, isMac}
 
 -- `verifyTests` from its end: 15; 7 to 15; 4 to 15
 abbrev pub macTests : List ℕ → List ℕ → List Test

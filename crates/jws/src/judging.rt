@@ -8,20 +8,20 @@ ghost use Rattle.common.specs.First.{first};
 ghost use Rattle.keytable.specs.Table.{badTable, keys};
 ghost use Rattle.jose_rules.specs.Decision.{decisionWith};
 ghost use Rattle.jws_rules.specs.Tests.{verifyTests};
-ghost use Rattle.jws.specs.SplitLaws.{Places};
+ghost use Rattle.jws_segments.specs.SplitLaws.{Places};
 ghost use Rattle.jws.specs.Judging.{refusalOf, acceptanceOf, concluded, decidedAs, laterTests, Judged};
 use crate::limits::TOKEN_MOST;
-use crate::opening::Opened;
-use crate::opening::open_segments;
-use crate::signature::is_mac;
-use crate::split::Cut;
-use crate::split::split;
 use jose::decide_with;
 use jose_rules::Choice;
 use jose_rules::Decision;
 use jose_rules::Place;
 use jws_rules::Record;
 use jws_rules::Verified;
+use jws_segments::Opened;
+use jws_segments::is_mac;
+use jws_segments::open_segments;
+use jws_segments::split::Cut;
+use jws_segments::split::split;
 
 // A refusal: its number, and a record of zeros.
 fn refusal(answer: u8) -> Verified

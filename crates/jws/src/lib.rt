@@ -1,10 +1,5 @@
 // Compact tokens (RFC 7515 section 7.1) with HS256: verifying, signing, and the payload.
 mod limits; // limits.rt: the longest token
-mod split; // split.rt: where a token's periods stand
-mod equal; // equal.rt: whether two MACs are equal
-mod segment; // segment.rt: decoding one segment
-mod signature; // signature.rt: a token's signature
-mod opening; // opening.rt: a token's segments decoded, and rules 4 to 6
 mod judging; // judging.rt: the rules of verifying, phase by phase
 mod making; // making.rt: a token in a lent buffer
 

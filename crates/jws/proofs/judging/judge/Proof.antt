@@ -4,7 +4,7 @@ use mathlib.Core.Bool.{false}
 use native.Mathlib.Omega.{arith}
 use borrow.Author.Needs.{needs}
 use Rattle.keytable.specs.Table.{badTable}
-use Rattle.jws.specs.SplitLaws.{split-at, split-not}
+use Rattle.jws_segments.specs.SplitLaws.{split-at, split-not}
 use Rattle.jws.proofs.JudgeLaws as law
 use Rattle.jws.proofs.judging.judge.Statement.{statement}
 use Rattle.jws.proofs.judging.judge.Tie as tie

@@ -2,7 +2,7 @@
 use lib.ListN.{length}
 use borrow.Author.Needs.{needs}
 use Rattle.jws.proofs.JudgeLaws as law
-use Rattle.jws.proofs.OpenLaws.{header-within}
+use Rattle.jws_segments.specs.OpenLaws.{header-within}
 use Rattle.jws.proofs.judging.judge_segments.Statement.{statement}
 use Rattle.jws.proofs.judging.judge_segments.Tie as tie
 

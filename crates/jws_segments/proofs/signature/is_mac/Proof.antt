@@ -1,0 +1,16 @@
+-- `is_mac` meets its contract: a signature of another length is no MAC.
+use borrow.Author.Needs.{needs}
+use Rattle.jws_segments.proofs.signature.is_mac.Statement.{statement}
+use Rattle.jws_segments.proofs.signature.is_mac.Tie as tie
+
+equal-requires : tie.Need-equal-requires
+equal-requires c κs = search needs
+
+returns : tie.Need-returns
+returns c = rw (c .before .before .before .if1 .taken) (c .equal .ensures)
+
+returns-2 : tie.Need-returns-2
+returns-2 c = search needs
+
+pub is-mac-spec : {M : Type 1} → statement M
+is-mac-spec = tie.close (tie.spec equal-requires returns returns-2)
