@@ -17,11 +17,11 @@ use jose_rules::Decision;
 use jose_rules::Place;
 use jws_rules::Record;
 use jws_rules::Verified;
+use jws_segments::Cut;
 use jws_segments::Opened;
 use jws_segments::is_mac;
 use jws_segments::open_segments;
-use jws_segments::split::Cut;
-use jws_segments::split::split;
+use jws_segments::split;
 
 // A refusal: its number, and a record of zeros.
 fn refusal(answer: u8) -> Verified

@@ -11,7 +11,7 @@ use borrow.Author.Tests.{eqb-true, eq-eqb, ne-eqb}
 use Rattle.jws_rules.specs.Segments.{period, periods, front, back, _dot_}
 use Rattle.jws_rules.specs.SegmentLaws.{length-dot, periods-dot, split}
 use Rattle.jws_rules.specs.Token.{sentInput}
-use Rattle.jws_segments.specs.declared.split.Cut.the-variants.{At, Not}
+use Rattle.jws_segments.specs.declared.periods.Cut.the-variants.{At, Not}
 use Rattle.jws_segments.specs.Split.{splitOf}
 
 -- A LIST WITH A PERIOD: its front, and its back as what follows the period

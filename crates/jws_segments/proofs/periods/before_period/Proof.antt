@@ -8,8 +8,8 @@ use lib.ListN.{length, drop, getD, drop-of-length-le}
 use lib.Seq.{drop-cons}
 use borrow.Author.Tests.{eq-eqb, ne-eqb}
 use Rattle.jws_rules.specs.Segments.{period, front}
-use Rattle.jws_segments.proofs.split.before_period.Statement.{statement}
-use Rattle.jws_segments.proofs.split.before_period.Tie as tie
+use Rattle.jws_segments.proofs.periods.before_period.Statement.{statement}
+use Rattle.jws_segments.proofs.periods.before_period.Tie as tie
 
 -- the front of what is left: a byte more, or none, or nothing is left
 module _ (s : List ℕ) (i : ℕ) where

@@ -4,8 +4,8 @@ use native.Mathlib.Omega.{arith}
 use borrow.Author.Needs.{needs}
 use Rattle.jws_rules.specs.Segments.{periods}
 use Rattle.jws_segments.specs.SplitLaws.{none-found, one-found, rest-is, is-two, not-two}
-use Rattle.jws_segments.proofs.split.split.Statement.{statement}
-use Rattle.jws_segments.proofs.split.split.Tie as tie
+use Rattle.jws_segments.proofs.periods.split.Statement.{statement}
+use Rattle.jws_segments.proofs.periods.split.Tie as tie
 
 before-period-requires : tie.Need-before-period-requires
 before-period-requires c κs = search needs

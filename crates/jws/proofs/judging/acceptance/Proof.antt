@@ -1,0 +1,10 @@
+-- `acceptance` meets its contract.
+use mathlib.Core.Path.{refl}
+use Rattle.jws.proofs.judging.acceptance.Statement.{statement}
+use Rattle.jws.proofs.judging.acceptance.Tie as tie
+
+returns : tie.Need-returns
+returns c = refl
+
+pub acceptance-spec : {M : Type 1} → statement M
+acceptance-spec = tie.close (tie.spec returns)
