@@ -12,11 +12,11 @@ use Rattle.json_grammar.specs.Places.{arrayK}
 use Rattle.json_string.specs.declared.End.{End}
 use Rattle.json_string.specs.declared.End.the-variants.{At, Bad}
 use Rattle.json_string.specs.Strings.{textIs}
-use Rattle.json.specs.declared.places.Kind.{Kind}
-use Rattle.json.specs.declared.places.Place.{Place as Span}
-use Rattle.json.specs.declared.steps.Item.{Item}
-use Rattle.json.specs.Members.{ArrayAt, ElementsFrom, FirstElement, ItemAt}
-use Rattle.json.specs.MemberLaws.{no-elements}
+use Rattle.json_members.specs.declared.places.Kind.{Kind}
+use Rattle.json_members.specs.declared.places.Place.{Place as Span}
+use Rattle.json_members.specs.declared.steps.Item.{Item}
+use Rattle.json_members.specs.Members.{ArrayAt, ElementsFrom, FirstElement, ItemAt}
+use Rattle.json_members.specs.MemberLaws.{no-elements}
 use Rattle.jose.specs.declared.members.Slot.{Slot}
 use Rattle.jose.specs.declared.members.Slot.the-variants.{Absent, Is}
 use Rattle.common.specs.Ascii.{ascii}

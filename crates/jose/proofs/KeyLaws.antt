@@ -20,8 +20,8 @@ use Rattle.json_string.specs.declared.Resolved.the-variants.{Bytes, Nothing as 
 use Rattle.json_string.specs.Strings.{NameAt, textIs, resolved, resolvedTo, resolvedAt, resolvedToAt}
 use Rattle.json_string.specs.StringLaws.{name-resolved, name-resolved-to}
 use Rattle.json_string.specs.Utf8.{utf8}
-use Rattle.json.specs.declared.places.Kind.{Kind}
-use Rattle.json.specs.declared.places.Place.{Place as Span}
+use Rattle.json_members.specs.declared.places.Kind.{Kind}
+use Rattle.json_members.specs.declared.places.Place.{Place as Span}
 use Rattle.keytable.specs.declared.Found.{Found}
 use Rattle.keytable.specs.declared.Found.the-variants.{Nothing}
 use Rattle.keytable.specs.Key.{Key, key, none as no-key, find, only, allowsHS256, allowsFormat}

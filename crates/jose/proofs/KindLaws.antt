@@ -11,13 +11,13 @@ use Rattle.json_grammar.specs.Places.{stringK, arrayK, numberK}
 use Rattle.json_string.specs.declared.End.{End}
 use Rattle.json_string.specs.declared.End.the-variants.{At, Bad}
 use Rattle.json_string.specs.Strings.{NameAt}
-use Rattle.json.specs.declared.places.Kind.{Kind}
-use Rattle.json.specs.declared.places.Place.{Place as Span}
-use Rattle.json.specs.declared.steps.Item.{Item}
-use Rattle.json.specs.Members.{ElementsAt, ElementsFrom, FirstElement, ItemAt}
-use Rattle.json.specs.MemberLaws.{no-elements}
-use Rattle.json.specs.Steps.{firstElement}
-use Rattle.json.specs.StepLaws.{first-element}
+use Rattle.json_members.specs.declared.places.Kind.{Kind}
+use Rattle.json_members.specs.declared.places.Place.{Place as Span}
+use Rattle.json_members.specs.declared.steps.Item.{Item}
+use Rattle.json_members.specs.Members.{ElementsAt, ElementsFrom, FirstElement, ItemAt}
+use Rattle.json_members.specs.MemberLaws.{no-elements}
+use Rattle.json_members.specs.Steps.{firstElement}
+use Rattle.json_members.specs.StepLaws.{first-element}
 use Rattle.decimal.specs.declared.Integer.{Integer}
 use Rattle.decimal.specs.Integer.{integerOf}
 use Rattle.jose.specs.declared.members.Slot.the-variants.{Absent, Is}

@@ -11,9 +11,9 @@ use Rattle.common.specs.Same.{same}
 use Rattle.json_grammar.specs.Value.{Value, arrayV, LValue, LItem, LItems, LMembers, stringL, numberL, trueL, falseL, nullL, arrayL, objectL, item, named, lnil, lcons, plain, plainItem, plainItems, plainMembers}
 use Rattle.json_grammar.specs.Places.{Kind as Kinds, stringK, numberK, arrayK, kindOf, margin, placed, pos as placeOf}
 use Rattle.json_string.specs.Strings.{NameAt}
-use Rattle.json.specs.declared.places.Kind.{Kind}
-use Rattle.json.specs.declared.places.Place.{Place as Span}
-use Rattle.json.specs.Members.{ArrayAt, Holds, ValueIs}
+use Rattle.json_members.specs.declared.places.Kind.{Kind}
+use Rattle.json_members.specs.declared.places.Place.{Place as Span}
+use Rattle.json_members.specs.Members.{ArrayAt, Holds, ValueIs}
 use Rattle.json.specs.Answers.{kindNumber}
 use Rattle.decimal.specs.Integer.{integerOf}
 use Rattle.jose_rules.specs.declared.Place.{Place}

@@ -10,11 +10,12 @@ use Rattle.json_string.specs.declared.End.{End}
 use Rattle.json_string.specs.declared.End.the-variants.{At, Bad}
 use Rattle.json_string.specs.Strings.{NameAt, textIs}
 use Rattle.json_string.specs.StringLaws.{name-is}
-use Rattle.json.specs.declared.steps.Entry.{Entry}
-use Rattle.json.specs.Members.{MembersAt, MembersFrom, TopMembers, EntryAt, ValueIs}
+use Rattle.json_members.specs.declared.steps.Entry.{Entry}
+use Rattle.json_members.specs.Members.{MembersAt, MembersFrom, TopMembers, EntryAt, ValueIs}
+use Rattle.json_members.specs.MemberLaws.{no-members}
+use Rattle.json_members.specs.StepLaws.{first-name}
 use Rattle.json.specs.Answers.{deepest, membersIn, checked}
-use Rattle.json.specs.MemberLaws.{no-members, checked-read}
-use Rattle.json.specs.StepLaws.{first-name}
+use Rattle.json.specs.AnswerLaws.{checked-read}
 use Rattle.jose.specs.declared.members.Slot.{Slot}
 use Rattle.jose.specs.declared.members.Slot.the-variants.{Absent, Is}
 use Rattle.jose.specs.declared.members.Known.{Known}

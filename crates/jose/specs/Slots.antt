@@ -13,10 +13,10 @@ use Rattle.json_grammar.specs.Value.{Members, LItem, LItems, LMembers, item, na
 use Rattle.json_grammar.specs.Places.{Kind as Kinds, stringK}
 use Rattle.json_string.specs.Strings.{NameAt}
 use Rattle.json_string.specs.Utf8.{utf8}
-use Rattle.json.specs.declared.places.Kind.{Kind}
-use Rattle.json.specs.declared.places.Place.{Place as Span}
-use Rattle.json.specs.declared.steps.Entry.{Entry}
-use Rattle.json.specs.Members.{MembersAt, ElementsAt, ValueIs, kindIn}
+use Rattle.json_members.specs.declared.places.Kind.{Kind}
+use Rattle.json_members.specs.declared.places.Place.{Place as Span}
+use Rattle.json_members.specs.declared.steps.Entry.{Entry}
+use Rattle.json_members.specs.Members.{MembersAt, ElementsAt, ValueIs, kindIn}
 use Rattle.json.specs.Answers.{deepest, kindNumber}
 use Rattle.keytable.specs.declared.Found.{Found}
 use Rattle.keytable.specs.Key.{Key, find, key, allowsHS256}

@@ -11,8 +11,8 @@ use crate::members::INSIDE;
 use crate::members::Known;
 use crate::members::Slot;
 use crate::members::there;
-use json::first_element;
-use json::item_at;
+use json_members::first_element;
+use json_members::item_at;
 use json_string::End;
 use json_string::text_is;
 

@@ -5,7 +5,7 @@ ghost use Prim.Native.Nat.{_<_};
 ghost use lib.ListN.{length};
 ghost use Rattle.json_grammar.specs.Places.{stringK, numberK, arrayK};
 ghost use Rattle.json.specs.Answers.{kindNumber};
-ghost use Rattle.json.specs.Members.{kindIn};
+ghost use Rattle.json_members.specs.Members.{kindIn};
 ghost use Rattle.jose_rules.specs.HeaderTests.{reading};
 ghost use Rattle.jose_rules.specs.Members.{strings, valueOf};
 ghost use Rattle.jose_rules.specs.Names.{crit, fmt};
@@ -18,10 +18,10 @@ use crate::members::Slot;
 use crate::members::there;
 use decimal::Integer;
 use decimal::parse;
-use json::Kind;
-use json::Place;
-use json::first_element;
-use json::item_at;
+use json_members::Kind;
+use json_members::Place;
+use json_members::first_element;
+use json_members::item_at;
 use json_string::End;
 
 // Whether a known member is missing or has the wrong kind, of a header whose format is an integer.

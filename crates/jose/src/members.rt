@@ -5,11 +5,11 @@ ghost use lib.ListN.{length};
 ghost use Rattle.json.specs.Answers.{checked};
 ghost use Rattle.jose.specs.Slots.{isThere, NoneKnown, Taken, Noted, Walked, Located};
 use json::DEEPEST;
-use json::Entry;
-use json::Kind;
-use json::Place;
-use json::entry_at;
-use json::top_members;
+use json_members::Entry;
+use json_members::Kind;
+use json_members::Place;
+use json_members::entry_at;
+use json_members::top_members;
 use json_string::End;
 use json_string::text_is;
 

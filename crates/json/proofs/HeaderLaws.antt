@@ -14,15 +14,16 @@ use Rattle.json_grammar.specs.ScanLaws.{scan-read}
 use Rattle.json_string.specs.declared.End.{End}
 use Rattle.json_string.specs.declared.End.the-variants.{At, Bad}
 use Rattle.json_reader.specs.Contracts.{isText}
-use Rattle.json.specs.declared.steps.Entry.{Entry}
-use Rattle.json.specs.declared.places.Member.{Member}
-use Rattle.json.specs.declared.places.Member.the-variants.{Refused}
-use Rattle.json.specs.Members.{MembersAt, MembersFrom, TopMembers, EntryAt, kindIn}
+use Rattle.json_members.specs.declared.steps.Entry.{Entry}
+use Rattle.json_members.specs.Members.{MembersAt, MembersFrom, TopMembers, EntryAt, kindIn, place}
+use Rattle.json_members.specs.MemberLaws.{no-members}
+use Rattle.json_members.specs.Steps.{topMembers}
+use Rattle.json_members.specs.StepLaws.{top-members}
+use Rattle.json.specs.declared.answer.Member.{Member}
+use Rattle.json.specs.declared.answer.Member.the-variants.{Refused}
 use Rattle.json.specs.Twice.{TwiceFrom}
-use Rattle.json.specs.Answers.{longest, deepest, membersIn, twiceIn, headerTests, checked, shownBy, place, answerFor, unlessRefused, memberOf, Picks}
-use Rattle.json.specs.MemberLaws.{no-members, text-read, checked-read}
-use Rattle.json.specs.Steps.{topMembers}
-use Rattle.json.specs.StepLaws.{top-members}
+use Rattle.json.specs.Answers.{longest, deepest, membersIn, twiceIn, headerTests, checked, shownBy, answerFor, unlessRefused, memberOf, Picks}
+use Rattle.json.specs.AnswerLaws.{text-read, checked-read}
 
 -- THE HEADER'S ANSWER
 

@@ -20,13 +20,13 @@ use Rattle.json_string.specs.Strings.{NameAt, sameText, StringEnds, fingerprint
 use Rattle.json_string.specs.StringLaws.{names-same}
 use Rattle.json_reader.specs.Contracts.{SkipsTo, MembersEnd, readMembers}
 use Rattle.json_reader.specs.EndsLaws.{given, none}
-use Rattle.json.specs.declared.steps.Entry.{Entry}
+use Rattle.json_members.specs.declared.steps.Entry.{Entry}
+use Rattle.json_members.specs.Members.{MembersAt, MembersFrom, EntryAt}
+use Rattle.json_members.specs.MemberLaws.{no-members}
+use Rattle.json_members.specs.StepLaws.{first-name}
 use Rattle.json.specs.declared.names.Search.{Search}
 use Rattle.json.specs.declared.names.Search.the-variants.{Twice, Past}
-use Rattle.json.specs.Members.{MembersAt, MembersFrom, EntryAt}
 use Rattle.json.specs.Twice.{namesOf, NamesTwice, Fingerprinted, Block, empty, one-more, crosses, Meets, Searched, ObjectTwice, TwiceFrom}
-use Rattle.json.specs.MemberLaws.{no-members}
-use Rattle.json.specs.StepLaws.{first-name}
 
 -- LISTS OF NAMES
 

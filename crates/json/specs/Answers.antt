@@ -10,10 +10,10 @@ use Rattle.json_grammar.specs.Value.{objectV, twice, LMembers, lnil, plainMembe
 use Rattle.json_grammar.specs.Places.{Kind, stringK, numberK, trueK, falseK, nullK, arrayK, objectK, Found, no-member, found, member}
 use Rattle.json_grammar.specs.Reader.{Got, bad, got, read}
 use Rattle.json_grammar.specs.Unique.{isGot}
-use Rattle.json.specs.declared.places.Place.{Place}
-use Rattle.json.specs.declared.places.Member.{Member}
-use Rattle.json.specs.declared.places.Member.the-variants.{String, Number, True, False, Null, Array, Object, Refused}
-use Rattle.json.specs.Members.{MembersAt}
+use Rattle.json_members.specs.declared.places.Place.{Place}
+use Rattle.json_members.specs.Members.{place, MembersAt}
+use Rattle.json.specs.declared.answer.Member.{Member}
+use Rattle.json.specs.declared.answer.Member.the-variants.{String, Number, True, False, Null, Array, Object, Refused}
 
 -- Rule 5: a header has at most 1,024 bytes. Rule 7: the top object is depth 1, and no depth exceeds 8.
 abbrev pub longest : ℕ
@@ -54,9 +54,6 @@ shownBy falseK n v = False n v
 shownBy nullK n v = Null n v
 shownBy arrayK n v = Array n v
 shownBy objectK n v = Object n v
-
-abbrev pub place : ℕ → ℕ → Place
-place s e = record { start = s; end = e }
 
 -- 16: no such member
 unfoldable pub answerFor : Found → Member

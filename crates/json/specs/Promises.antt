@@ -22,9 +22,10 @@ use Rattle.json_grammar.specs.Sound.{Derived}
 use Rattle.json_grammar.specs.Unique.{isGot, one-reading, read-decides}
 use Rattle.json_grammar.specs.Shown.{Shows}
 use Rattle.json_grammar.specs.ShownLaws.{shown}
-use Rattle.json.specs.declared.places.Place.{Place}
-use Rattle.json.specs.declared.places.Member.the-variants.{Refused}
-use Rattle.json.specs.Answers.{longest, deepest, membersIn, twiceIn, grammarTests, headerTests, checked, shownBy, place, answerFor, unlessRefused, memberOf, numberOf, with-kind, valuesOf}
+use Rattle.json_members.specs.declared.places.Place.{Place}
+use Rattle.json_members.specs.Members.{place}
+use Rattle.json.specs.declared.answer.Member.the-variants.{Refused}
+use Rattle.json.specs.Answers.{longest, deepest, membersIn, twiceIn, grammarTests, headerTests, checked, shownBy, answerFor, unlessRefused, memberOf, numberOf, with-kind, valuesOf}
 
 -- THE CONDITIONS
 

@@ -10,10 +10,11 @@ use Rattle.json_grammar.specs.Grammar.{Derivation, bytes, readingOf}
 use Rattle.json_grammar.specs.Places.{kindOf, pos, margin, placed, member}
 use Rattle.json_grammar.specs.Reader.{read, readValue, readChars, readChar, charLead, escapeLeadOf, isUnescaped1, pastNumber, word, valueLead, skip}
 use Rattle.json_grammar.specs.Unique.{one-reading}
-use Rattle.json.specs.declared.places.Member.{Member}
-use Rattle.json.specs.declared.places.Member.the-variants.{Refused, Array}
-use Rattle.json.specs.declared.places.Member.the-variants.{String as Text}
-use Rattle.json.specs.Answers.{headerTests, checked, shownBy, place, answerFor, unlessRefused, memberOf}
+use Rattle.json_members.specs.Members.{place}
+use Rattle.json.specs.declared.answer.Member.{Member}
+use Rattle.json.specs.declared.answer.Member.the-variants.{Refused, Array}
+use Rattle.json.specs.declared.answer.Member.the-variants.{String as Text}
+use Rattle.json.specs.Answers.{headerTests, checked, shownBy, answerFor, unlessRefused, memberOf}
 
 -- what member k of a header answers
 unfoldable pub answers : String → ℕ → Member

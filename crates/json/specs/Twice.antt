@@ -10,9 +10,9 @@ use Rattle.json_grammar.specs.Scan.{namesTwice, scan}
 use Rattle.json_string.specs.declared.End.the-variants.{At}
 use Rattle.json_string.specs.Strings.{NameAt, fingerprintAt}
 use Rattle.json_reader.specs.Contracts.{readMembers}
+use Rattle.json_members.specs.Members.{MembersAt, MembersFrom}
 use Rattle.json.specs.declared.names.Search.{Search}
 use Rattle.json.specs.declared.names.Search.the-variants.{Twice, Past}
-use Rattle.json.specs.Members.{MembersAt, MembersFrom}
 
 abbrev pub namesOf : LMembers → List (List ℕ)
 namesOf ms = names (plainMembers ms)

@@ -1,19 +1,16 @@
 // What a header answers, and its members.
+use crate::answer::Member;
 use crate::names::twice_from;
-use crate::places::Kind;
-use crate::places::Member;
-use crate::places::Place;
-use crate::steps::Entry;
-use crate::steps::entry_at;
-use crate::steps::first_member;
-use json_reader::skip_ws;
+use json_members::Kind;
+use json_members::Place;
+use json_members::entry_at;
+use json_members::top_members;
 use json_reader::text;
 use json_string::End;
 ghost use mathlib.Core.Path.{_≡_};
 ghost use Prim.Native.Nat.{_<_};
 ghost use lib.ListN.{length};
-ghost use Rattle.json.specs.Members.{kindIn};
-ghost use Rattle.json.specs.Steps.{topMembers};
+ghost use Rattle.json_members.specs.Members.{kindIn};
 ghost use Rattle.json.specs.Answers.{checked, shownBy, memberOf, Picks};
 
 // The greatest length of a header, and the greatest depth, in which the top object is 1.
@@ -36,18 +33,6 @@ pub fn check(header: &[u8]) -> u8
         return 0;
     }
     7
-}
-
-// Where the first member of the top object begins, if it has one.
-// Rules out no members of a header that has some, and a brace looked for in the white space before it.
-pub fn top_members(header: &[u8]) -> End
-    ensures { λ r. ⌜ r ≡ topMembers (now (header .entry)) ⌝ }
-{
-    let at = skip_ws(header, 0);
-    if at < header.len() {
-        return first_member(header, at);
-    }
-    End::Bad
 }
 
 // A member by the kind of its value.

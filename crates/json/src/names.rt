@@ -1,5 +1,5 @@
 // Names that stand twice in one object. Names are compared pair by pair, after their escapes are resolved; the first equal pair ends the search.
-use crate::steps::entry_at;
+use json_members::entry_at;
 use json_reader::member_list;
 use json_reader::skip_ws;
 use json_string::End;

@@ -1,5 +1,5 @@
 -- What is answered where a string stands.
-use mathlib.Core.Path.{_≡_, sym, ap, ap₂, _∙_}
+use mathlib.Core.Path.{_≡_, sym, ap, ap₂, _∙_, subst}
 use mathlib.Core.List.{List}
 use Prim.Native.Nat.{ℕ}
 use native.Mathlib.Omega.{arith}
@@ -7,7 +7,8 @@ use lib.ListN.{length, drop}
 use Rattle.common.specs.Same.{same}
 use Rattle.json_grammar.specs.Reader.{got}
 use Rattle.json_grammar.specs.CharLaws.{chars-fuel}
-use Rattle.json_string.specs.Strings.{NameAt, textAt, given, sameOf, sameText, mixAll, fingerprintAt, mixedAt, textIs, resolved, resolvedTo, resolvedAt, resolvedToAt}
+use Rattle.json_string.specs.declared.End.{End}
+use Rattle.json_string.specs.Strings.{StringEnds, NameAt, textAt, given, sameOf, sameText, mixAll, fingerprintAt, mixedAt, textIs, resolved, resolvedTo, resolvedAt, resolvedToAt}
 use Rattle.json_string.specs.Utf8.{utf8}
 
 module _ (s : List ℕ) (p : ℕ) (cs : List ℕ) (h : NameAt s p cs) where
@@ -37,3 +38,7 @@ module _ (s : List ℕ) (p : ℕ) (cs : List ℕ) (h : NameAt s p cs) where
 pub names-same : (s : List ℕ) (p q : ℕ) (cs ds : List ℕ) → NameAt s p cs → NameAt s q ds → sameText s p q ≡ same cs ds
 unfolding sameText
 names-same s p q cs ds h k = ap₂ sameOf (name-text s p cs h .1) (name-text s q ds k .1)
+
+-- a callee's contract at the answer that it gave
+pub stringed : (s : List ℕ) (at : ℕ) {x y : End} → x ≡ y → StringEnds s at x → StringEnds s at y
+stringed s at e h = subst (λ (z : End). StringEnds s at z) e h

@@ -10,8 +10,8 @@ use Rattle.json_grammar.specs.Bytes.{within, isWs, isDigit, isDigit19, isE, isS
 use Rattle.json_grammar.specs.Value.{among, repeated, names, twice, plain, plainMembers}
 use Rattle.json_grammar.specs.Grammar.{Derivation, bytes, readingOf}
 use Rattle.json_grammar.specs.Reader.{read, readValue, readChars, readChar, charLead, escapeLeadOf, isUnescaped1, pastNumber, word, valueLead, skip}
-use Rattle.json.specs.declared.places.Member.the-variants.{Refused as RefusedMember, Array, String as Text}
-use Rattle.json.specs.Answers.{place}
+use Rattle.json_members.specs.Members.{place}
+use Rattle.json.specs.declared.answer.Member.the-variants.{Refused as RefusedMember, Array, String as Text}
 use Rattle.json.specs.Rows.{answers, rows}
 use Rattle.keytable.specs.Key.{Key}
 use Rattle.decimal.specs.Integer.{integerOf, allDigits, after}

@@ -36,9 +36,9 @@ use denote.Triple.Walked.{says, Stays, stay-none, stay-none-slice, walkOf, goes-
 use denote.Exit.{yes}
 use denote.Triple.Clauses.{ensured, lasts}
 use Rattle.json.specs.Answers.{memberOf}
-use Rattle.json.specs.declared.places.Member.{Member}
-use Rattle.json.proofs.places.Member as S
-use Rattle.json.proofs.places.Member.Laws as S′
+use Rattle.json.specs.declared.answer.Member.{Member}
+use Rattle.json.proofs.answer.Member as S
+use Rattle.json.proofs.answer.Member.Laws as S′
 use Rattle.header_reader.specs.declared.HeaderReader.{HeaderReader}
 use Rattle.header_reader.proofs.HeaderReader.Laws as T′
 use Rattle.header_reader.proofs.Held.{Own, sliceOf, made}

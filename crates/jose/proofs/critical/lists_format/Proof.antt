@@ -1,14 +1,14 @@
 -- `lists_format`: the array's first element, and whether there is another.
 use Prim.Native.Nat.{_-_}
 use denote.Ref.{now}
-use Rattle.json.specs.Members.{FirstElement}
+use Rattle.json_members.specs.Members.{FirstElement}
 use Rattle.json_string.specs.declared.End.the-variants.{At}
 use Rattle.common.specs.Ascii.{ascii}
 use Rattle.jose_rules.specs.Names.{crit, fmt}
 use Rattle.jose.proofs.SlotLaws.{stands-as}
 use Rattle.jose.proofs.KindLaws.{first-as}
 use Rattle.jose.proofs.CriticalLaws.{Strings, strings-at, lists-absent, lists-empty, lists-other, lists-more, lists-one}
-use Rattle.json.specs.StepLaws.{first-element, item-at}
+use Rattle.json_members.specs.StepLaws.{first-element, item-at}
 use borrow.Author.Needs.{needs}
 use native.Mathlib.Omega.{arith}
 use Rattle.jose.proofs.critical.lists_format.Statement.{statement}

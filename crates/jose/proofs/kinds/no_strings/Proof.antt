@@ -7,7 +7,7 @@ use Rattle.jose_rules.specs.Members.{strings}
 use Rattle.jose.specs.Slots.{Stands}
 use Rattle.jose.proofs.SlotLaws.{stands-as, array-at, wrong-absent}
 use Rattle.jose.proofs.KindLaws.{first-as, no-strings-from, no-strings-empty, no-strings-other}
-use Rattle.json.specs.StepLaws.{first-element}
+use Rattle.json_members.specs.StepLaws.{first-element}
 use borrow.Author.Needs.{needs}
 use Rattle.jose.proofs.kinds.no_strings.Statement.{statement}
 use Rattle.jose.proofs.kinds.no_strings.Tie as tie

@@ -1,7 +1,7 @@
 -- `number_of`, kind by kind.
 use mathlib.Core.Path.{_≡_, sym, ap}
-use Rattle.json.specs.declared.places.Kind.{Kind}
-use Rattle.json.specs.Members.{kindIn}
+use Rattle.json_members.specs.declared.places.Kind.{Kind}
+use Rattle.json_members.specs.Members.{kindIn}
 use Rattle.json.specs.Answers.{kindNumber}
 use borrow.Author.Needs.{needs}
 use Rattle.jose.proofs.kinds.number_of.Statement.{statement}

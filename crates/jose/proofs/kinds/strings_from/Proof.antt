@@ -4,7 +4,7 @@ use mathlib.Core.Bool.{Bool}
 use lib.ListN.{length}
 use Rattle.jose.specs.Slots.{StringsFrom}
 use Rattle.jose.proofs.KindLaws.{strings-next, strings-last, strings-other}
-use Rattle.json.specs.StepLaws.{item-at}
+use Rattle.json_members.specs.StepLaws.{item-at}
 use borrow.Author.Needs.{needs}
 use native.Mathlib.Omega.{arith}
 use Rattle.jose.proofs.kinds.strings_from.Statement.{statement}

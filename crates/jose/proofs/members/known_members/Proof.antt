@@ -1,6 +1,6 @@
 -- `known_members`: the walk over the top object's members, if it has any.
 use Rattle.jose.proofs.WalkLaws.{located-from, located-none}
-use Rattle.json.specs.StepLaws.{top-members}
+use Rattle.json_members.specs.StepLaws.{top-members}
 use borrow.Author.Needs.{needs}
 use Rattle.jose.proofs.members.known_members.Statement.{statement}
 use Rattle.jose.proofs.members.known_members.Tie as tie

@@ -2,7 +2,7 @@
 use Prim.Native.Nat.{_-_, _<_}
 use lib.ListN.{length}
 use Rattle.jose.proofs.WalkLaws.{Walking, walk-start, walk-next, walk-end}
-use Rattle.json.specs.StepLaws.{entry-at}
+use Rattle.json_members.specs.StepLaws.{entry-at}
 use borrow.Author.Needs.{needs}
 use native.Mathlib.Omega.{arith}
 use Rattle.jose.proofs.members.walk.Statement.{statement}

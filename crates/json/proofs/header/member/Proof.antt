@@ -1,6 +1,6 @@
 -- `member` meets its contract.
 use borrow.Author.Needs.{needs}
-use Rattle.json.specs.StepLaws.{top-members}
+use Rattle.json_members.specs.StepLaws.{top-members}
 use Rattle.json.proofs.HeaderLaws as law
 use Rattle.json.proofs.header.member.Statement.{statement}
 use Rattle.json.proofs.header.member.Tie as tie

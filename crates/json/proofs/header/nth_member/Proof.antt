@@ -3,8 +3,8 @@ use Prim.Native.Nat.{_<_}
 use native.Mathlib.Omega.{arith}
 use lib.ListN.{length}
 use borrow.Author.Needs.{needs}
-use Rattle.json.specs.StepLaws.{entry-at}
-use Rattle.json.specs.declared.places.Member.{Member}
+use Rattle.json_members.specs.StepLaws.{entry-at}
+use Rattle.json.specs.declared.answer.Member.{Member}
 use Rattle.json.specs.Answers.{Picks}
 use Rattle.json.proofs.HeaderLaws as law
 use Rattle.json.proofs.header.nth_member.Statement.{statement}

@@ -5,7 +5,7 @@ use Prim.Native.Nat.{_+_, _-_, _≤_, _<_}
 use native.Mathlib.Omega.{arith}
 use lib.ListN.{length}
 use borrow.Author.Needs.{needs}
-use Rattle.json.specs.StepLaws.{entry-at}
+use Rattle.json_members.specs.StepLaws.{entry-at}
 use Rattle.json.specs.Twice.{Meets}
 use Rattle.json.proofs.NameLaws.{Without}
 use Rattle.json.proofs.NameLaws as law

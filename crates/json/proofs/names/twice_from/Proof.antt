@@ -5,7 +5,7 @@ use native.Mathlib.Omega.{arith}
 use lib.ListN.{length}
 use borrow.Author.Needs.{needs}
 use Rattle.json.specs.Twice.{TwiceFrom}
-use Rattle.json.proofs.StepPaths.{stringed}
+use Rattle.json_string.specs.StringLaws.{stringed}
 use Rattle.json.proofs.NameLaws as law
 use Rattle.json.proofs.names.twice_from.Statement.{statement}
 use Rattle.json.proofs.names.twice_from.Tie as tie

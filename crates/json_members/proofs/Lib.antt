@@ -1,0 +1,2 @@
+-- Laws for the code's proofs.
+pub mod StepPaths

@@ -1,0 +1,20 @@
+-- `top_members` meets its contract.
+use Rattle.json_members.proofs.StepPaths as law
+use borrow.Author.Needs.{needs}
+use Rattle.json_members.proofs.steps.top_members.Statement.{statement}
+use Rattle.json_members.proofs.steps.top_members.Tie as tie
+
+skip-ws-requires : tie.Need-skip-ws-requires
+skip-ws-requires c κs = search needs
+
+first-member-requires : tie.Need-first-member-requires
+first-member-requires c κs = search needs
+
+returns : tie.Need-returns
+returns c = law.top-is (c .before .before .skip-ws .ensures) (c .before .if1 .taken) (c .first-member .ensures)
+
+returns-2 : tie.Need-returns-2
+returns-2 c = law.top-out (c .before .skip-ws .ensures) (c .if1 .left)
+
+pub top-members-spec : {M : Type 1} → statement M
+top-members-spec = tie.close (tie.spec skip-ws-requires first-member-requires returns returns-2)

@@ -1,0 +1,5 @@
+-- Members of an object and elements of an array: what stands at a place, the steps over it, and their laws.
+pub mod Members
+pub mod MemberLaws
+pub mod Steps
+pub mod StepLaws

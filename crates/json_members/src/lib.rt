@@ -1,0 +1,13 @@
+// The members of an object and the elements of an array, by place (RFC 8259 sections 4 and 5).
+mod places; // places.rt: kinds and places of values
+mod steps; // steps.rt: members of an object and elements of an array, one by one
+
+pub use places::Kind;
+pub use places::Place;
+pub use steps::Entry;
+pub use steps::Item;
+pub use steps::entry_at;
+pub use steps::first_element;
+pub use steps::first_member;
+pub use steps::item_at;
+pub use steps::top_members;
