@@ -7,12 +7,12 @@ use native.Mathlib.Omega.{arith}
 use lib.ListN.{length, getD, take, drop, set, take-append-drop, length-drop}
 use lib.Seq.{take-add, length-take-le}
 use borrow.Rule.Slice.PartMut.{putMid}
-use Rattle.base64url.specs.Base64url.{decode, alphabetic, unusedBits, strict}
-use Rattle.base64url.specs.GroupLaws.{decode-append, strict-append}
-use Rattle.base64url.specs.LengthLaws.{length-decode}
-use Rattle.base64url.specs.Outcome.{laid}
-use Rattle.base64url.specs.StrictGroups.{no}
-use Rattle.base64url.specs.Tables.{entries}
+use Rattle.base64url_rules.specs.Base64url.{decode, alphabetic, unusedBits, strict}
+use Rattle.base64url_rules.specs.GroupLaws.{decode-append, strict-append}
+use Rattle.base64url_rules.specs.LengthLaws.{length-decode}
+use Rattle.base64url_rules.specs.Outcome.{laid}
+use Rattle.base64url_rules.specs.StrictGroups.{no}
+use Rattle.base64url_rules.specs.Tables.{entries}
 use Rattle.base64url.specs.Writing.{Decodes, Grouped}
 use Rattle.base64url.proofs.LaidLaws.{three-stores, tail, grown, grown-part}
 use Rattle.base64url.proofs.Listed.{listed}

@@ -6,11 +6,11 @@ use native.Mathlib.Omega.{arith}
 use lib.ListN.{length, getD, take, drop, set, take-append-drop, length-drop}
 use lib.Seq.{take-add, length-take-le}
 use borrow.Rule.Slice.PartMut.{putMid}
-use Rattle.base64url.specs.Base64url.{encode, encodedLength}
-use Rattle.base64url.specs.GroupLaws.{encode-append}
-use Rattle.base64url.specs.LengthLaws.{length-encode, encoded-length}
-use Rattle.base64url.specs.Outcome.{laid}
-use Rattle.base64url.specs.Tables.{entries}
+use Rattle.base64url_rules.specs.Base64url.{encode, encodedLength}
+use Rattle.base64url_rules.specs.GroupLaws.{encode-append}
+use Rattle.base64url_rules.specs.LengthLaws.{length-encode, encoded-length}
+use Rattle.base64url_rules.specs.Outcome.{laid}
+use Rattle.base64url_rules.specs.Tables.{entries}
 use Rattle.base64url.proofs.LaidLaws.{four-stores, tail, grown, grown-part}
 use Rattle.base64url.proofs.Listed.{listed}
 

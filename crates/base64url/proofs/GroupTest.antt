@@ -7,9 +7,9 @@ use native.Mathlib.Omega.{arith}
 use lib.Bits.{bitOr, or-add-and, and-le-l, and-le-r, or-lt}
 use lib.Dec.{ltb}
 use borrow.Author.Tests.{lt-ltb, le-ltb, ltb-true, ltb-false}
-use Rattle.base64url.specs.Alphabet.{value}
-use Rattle.base64url.specs.Base64url.{alphabetic, strict}
-use Rattle.base64url.specs.GroupLaws.{strict-groups}
+use Rattle.base64url_rules.specs.Alphabet.{value}
+use Rattle.base64url_rules.specs.Base64url.{alphabetic, strict}
+use Rattle.base64url_rules.specs.GroupLaws.{strict-groups}
 
 le-or-l : (a b : ℕ) → a ≤ bitOr a b
 le-or-l a b = omega (arith, or-add-and a b, and-le-r a b)

@@ -7,7 +7,7 @@ use native.Mathlib.Omega.{arith}
 use lib.ListN.{length, take, drop, set, length-append, length-drop, drop-of-length-le}
 use lib.Seq.{sets, sets-eq, take-at, drop-at, drop-drop, take-all}
 use borrow.Rule.Slice.PartMut.{putMid}
-use Rattle.base64url.specs.Outcome.{laid}
+use Rattle.base64url_rules.specs.Outcome.{laid}
 
 -- stores in a row, as the code has them
 pub three-stores : (l : List ℕ) (n a b c : ℕ) → set (set (set l n a) (n + 1) b) (n + 2) c ≡ sets l n (a ∷ b ∷ c ∷ [])

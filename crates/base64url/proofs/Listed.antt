@@ -5,7 +5,7 @@ use Prim.Native.Nat.{ℕ, zero, suc}
 use native.Mathlib.Omega.{arith}
 use lib.ListN.{length, getD}
 use lib.Seq.{ext-getD}
-use Rattle.base64url.specs.Tables.{entries, entry}
+use Rattle.base64url_rules.specs.Tables.{entries, entry}
 
 length-entries : (f : ℕ → ℕ) (i n : ℕ) → length (entries f i n) ≡ n
 unfolding entries

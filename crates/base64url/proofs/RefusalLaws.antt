@@ -7,11 +7,11 @@ use native.Mathlib.Omega.{arith}
 use lib.ListN.{length, getD, drop, drop-of-length-le}
 use lib.Seq.{drop-cons}
 use borrow.Author.Tests.{lt-ltb, le-ltb, eq-eqb, ne-eqb}
-use Rattle.base64url.specs.Alphabet.{value}
-use Rattle.base64url.specs.Base64url.{unusedBits}
-use Rattle.base64url.specs.Fault.{firstOutside, fault}
-use Rattle.base64url.specs.Outcome.{refusal}
-use Rattle.base64url.specs.declared.Decoded.{Decoded}
+use Rattle.base64url_rules.specs.Alphabet.{value}
+use Rattle.base64url_rules.specs.Base64url.{unusedBits}
+use Rattle.base64url_rules.specs.Fault.{firstOutside, fault}
+use Rattle.base64url_rules.specs.Outcome.{refusal}
+use Rattle.base64url_rules.specs.declared.Decoded.{Decoded}
 
 -- the first i characters of s are all of the alphabet
 abbrev pub Passed : List ℕ → ℕ → Type 0

@@ -8,9 +8,9 @@ use lib.Dec.{eqb}
 use lib.ListN.{length, take, set}
 use borrow.Author.Tests.{eq-eqb, ne-eqb, eqb-true, eqb-false}
 use Rattle.common.specs.Ranges.{within}
-use Rattle.base64url.specs.Alphabet.{value, inAlphabet}
-use Rattle.base64url.specs.Base64url.{encode, decode, alphabetic, unusedBits, strict, byte1, byte2, byte3}
-use Rattle.base64url.specs.Outcome.{laid}
+use Rattle.base64url_rules.specs.Alphabet.{value, inAlphabet}
+use Rattle.base64url_rules.specs.Base64url.{encode, decode, alphabetic, unusedBits, strict, byte1, byte2, byte3}
+use Rattle.base64url_rules.specs.Outcome.{laid}
 use Rattle.base64url.specs.Writing.{Decodes, Grouped}
 use Rattle.base64url.proofs.DecodeLaws.{not-strict}
 use Rattle.base64url.proofs.LaidLaws.{stored}

@@ -3,8 +3,8 @@ use mathlib.Core.Path.{_≡_}
 use mathlib.Core.Bool.{Bool, true}
 use mathlib.Core.List.{List, [], _∷_}
 use Prim.Native.Nat.{ℕ}
-use Rattle.base64url.specs.Base64url.{strict, decode}
-use Rattle.base64url.specs.Outcome.{laid}
+use Rattle.base64url_rules.specs.Base64url.{strict, decode}
+use Rattle.base64url_rules.specs.Outcome.{laid}
 
 pub record Decodes (text out₀ : List ℕ) (ok : Bool) (out : List ℕ) : Type 0 where
   pub answer : ok ≡ strict text

@@ -2,8 +2,8 @@
 ghost use mathlib.Core.Path.{_≡_};
 ghost use Prim.Native.Nat.{_<_, _≤_, _%_};
 ghost use lib.ListN.{length};
-ghost use Rattle.base64url.specs.Base64url.{decodedLength};
-ghost use Rattle.base64url.specs.Tables.{values};
+ghost use Rattle.base64url_rules.specs.Base64url.{decodedLength};
+ghost use Rattle.base64url_rules.specs.Tables.{values};
 ghost use Rattle.base64url.specs.Writing.{Decodes, Grouped};
 use crate::tables::value_of;
 

@@ -3,9 +3,9 @@ ghost use mathlib.Core.Path.{_≡_};
 ghost use mathlib.Core.List.{List, [], _∷_};
 ghost use Prim.Native.Nat.{_<_, _≤_, _%_};
 ghost use lib.ListN.{length};
-ghost use Rattle.base64url.specs.Base64url.{encode, encodedLength};
-ghost use Rattle.base64url.specs.Outcome.{laid};
-ghost use Rattle.base64url.specs.Tables.{characters};
+ghost use Rattle.base64url_rules.specs.Base64url.{encode, encodedLength};
+ghost use Rattle.base64url_rules.specs.Outcome.{laid};
+ghost use Rattle.base64url_rules.specs.Tables.{characters};
 use crate::tables::character_of;
 
 // The four characters of three bytes.

@@ -1,9 +1,9 @@
 // Why a text is refused. It goes over the characters one by one: only a refusal pays for it.
 ghost use mathlib.Core.Path.{_≡_};
-ghost use Rattle.base64url.specs.Base64url.{unusedBits};
-ghost use Rattle.base64url.specs.Fault.{fault, firstOutside};
-ghost use Rattle.base64url.specs.Outcome.{refusal};
-ghost use Rattle.base64url.specs.Tables.{values};
+ghost use Rattle.base64url_rules.specs.Base64url.{unusedBits};
+ghost use Rattle.base64url_rules.specs.Fault.{fault, firstOutside};
+ghost use Rattle.base64url_rules.specs.Outcome.{refusal};
+ghost use Rattle.base64url_rules.specs.Tables.{values};
 use crate::Decoded;
 use crate::tables::value_of;
 

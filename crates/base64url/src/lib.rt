@@ -1,31 +1,20 @@
-// Strict base64url without padding (RFC 4648 section 5): a segment's text to its bytes, and back.
+// Strict base64url without padding (RFC 4648 section 5): a segment's text to its bytes, and back. The definitions and theorems stand in
+// crate `base64url_rules`.
 ghost use mathlib.Core.Path.{_≡_};
 ghost use lib.ListN.{length};
-ghost use Rattle.base64url.specs.Base64url.{encodedLength, decodedLength};
-ghost use Rattle.base64url.specs.Outcome.{decodedTo, decoding, encodedTo, encoding};
-ghost use Rattle.base64url.specs.Tables.{values, characters};
+ghost use Rattle.base64url_rules.specs.Base64url.{encodedLength, decodedLength};
+ghost use Rattle.base64url_rules.specs.Outcome.{decodedTo, decoding, encodedTo, encoding};
+ghost use Rattle.base64url_rules.specs.Tables.{values, characters};
 
 mod tables; // tables.rt: the values of the characters, and the characters of the values
 mod decoding; // decoding.rt: a text into a buffer that has room for its bytes
 mod fault; // fault.rt: why a text is refused
 mod encoding; // encoding.rt: bytes into a buffer that has room for their text
 
+pub use base64url_rules::Decoded;
+pub use base64url_rules::Encoded;
 pub use tables::alphabet;
 pub use tables::table;
-
-// The answer of decoding: how many bytes were written; the place of the fault in a text that is not strict; or a strict text
-// whose bytes the buffer has no room for.
-pub enum Decoded {
-    Bytes(usize),
-    Fault(usize),
-    Short,
-}
-
-// The answer of encoding: how many characters were written, or a buffer that has no room for them.
-pub enum Encoded {
-    Text(usize),
-    Short,
-}
 
 // How many bytes a text of this length stands for. Rules out four bytes for a group, and a byte more for a rest.
 pub fn decoded_len(text: &[u8]) -> usize

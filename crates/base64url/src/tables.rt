@@ -1,8 +1,8 @@
 // The two tables. A constant array is copied wherever it is named, so each is copied once, by a call, and lent from then on.
 ghost use mathlib.Core.Path.{_≡_};
 ghost use Prim.Native.Nat.{_<_};
-ghost use Rattle.base64url.specs.Alphabet.{value, character};
-ghost use Rattle.base64url.specs.Tables.{values, characters};
+ghost use Rattle.base64url_rules.specs.Alphabet.{value, character};
+ghost use Rattle.base64url_rules.specs.Tables.{values, characters};
 
 // A row for each sixteen characters.
 const VALUES: [u8; 256] = *b"\

@@ -7,11 +7,11 @@ use native.Mathlib.Omega.{arith}
 use lib.ListN.{length, take, drop, set, length-append, length-drop, length-set}
 use lib.Seq.{take-at, take-suc-set, drop-set-lt, drop-drop, drop-append-add, length-take-le}
 use borrow.Rule.Slice.PartMut.{putMid}
-use Rattle.base64url.specs.Base64url.{encode, encodedLength}
-use Rattle.base64url.specs.LengthLaws.{length-encode}
-use Rattle.base64url.specs.Outcome.{laid, Encoding, encodedTo, encoding}
-use Rattle.base64url.specs.OutcomeLaws.{roomy}
-use Rattle.base64url.specs.declared.Encoded.{Encoded}
+use Rattle.base64url_rules.specs.Base64url.{encode, encodedLength}
+use Rattle.base64url_rules.specs.LengthLaws.{length-encode}
+use Rattle.base64url_rules.specs.Outcome.{laid, Encoding, encodedTo, encoding}
+use Rattle.base64url_rules.specs.OutcomeLaws.{roomy}
+use Rattle.base64url_rules.specs.declared.Encoded.{Encoded}
 use Rattle.base64url.proofs.LaidLaws.{tail, put-tail}
 use Rattle.hmac.specs.Hmac.{HMACSHA256}
 use Rattle.jws_rules.specs.Segments.{period, _dot_}

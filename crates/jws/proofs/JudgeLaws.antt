@@ -10,7 +10,7 @@ use borrow.Author.Tests.{lt-ltb, le-ltb, eqb-false, eq-eqb, ne-eqb, not-true, no
 use Rattle.common.specs.First.{_when_, first, first-next, first-within, first-after}
 use Rattle.common.specs.Decided.{test-false}
 use Rattle.common.specs.Same.{same, decides-same}
-use Rattle.base64url.specs.Base64url.{decode, strict}
+use Rattle.base64url_rules.specs.Base64url.{decode, strict}
 use Rattle.base64url.proofs.LaidLaws.{tail}
 use Rattle.hmac.specs.Hmac.{HMACSHA256}
 use Rattle.hmac.specs.HmacLaws.{length-HMACSHA256}

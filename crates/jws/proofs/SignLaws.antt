@@ -7,8 +7,8 @@ use native.Mathlib.Omega.{arith}
 use lib.ListN.{length}
 use borrow.Author.Tests.{lt-ltb, le-ltb}
 use Rattle.common.specs.First.{Rule, _on_, Test, _when_, first, Agree, _by_, none-stands, first-past, first-within, decides-lt}
-use Rattle.base64url.specs.Base64url.{encodedLength}
-use Rattle.base64url.specs.LengthLaws.{length-encode, encoded-length}
+use Rattle.base64url_rules.specs.Base64url.{encodedLength}
+use Rattle.base64url_rules.specs.LengthLaws.{length-encode, encoded-length}
 use Rattle.json.specs.Answers.{longest}
 use Rattle.keytable.specs.Key.{key}
 use Rattle.keytable.specs.Table.{Wellformed, badTable, keys}

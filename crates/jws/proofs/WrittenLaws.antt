@@ -6,7 +6,7 @@ use native.Mathlib.Omega.{arith}
 use lib.ListN.{length, take, drop, replicate, length-drop}
 use lib.Seq.{take-at, length-take-le}
 use borrow.Rule.Slice.PartMut.{putMid}
-use Rattle.base64url.specs.Outcome.{laid}
+use Rattle.base64url_rules.specs.Outcome.{laid}
 use Rattle.common.specs.Buffer.{filled}
 use Rattle.jws_rules.specs.declared.Signed.{Signed}
 use Rattle.jws_rules.specs.Outcomes.{SignOutcome, handed, unsigned, signedAs}

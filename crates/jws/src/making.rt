@@ -2,9 +2,9 @@
 ghost use mathlib.Core.Path.{_≡_};
 ghost use Prim.Native.Nat.{_+_, _≤_};
 ghost use lib.ListN.{length, take};
-ghost use Rattle.base64url.specs.Base64url.{encode};
-ghost use Rattle.base64url.specs.Outcome.{laid};
-ghost use Rattle.base64url.specs.Tables.{characters};
+ghost use Rattle.base64url_rules.specs.Base64url.{encode};
+ghost use Rattle.base64url_rules.specs.Outcome.{laid};
+ghost use Rattle.base64url_rules.specs.Tables.{characters};
 ghost use Rattle.json.specs.Answers.{longest};
 ghost use Rattle.jws_rules.specs.Segments.{_dot_};
 ghost use Rattle.jws_rules.specs.Token.{tokenOf, finishedLength};

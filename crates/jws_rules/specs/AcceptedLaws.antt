@@ -10,8 +10,8 @@ use Rattle.common.specs.Bytes.{Bytes}
 use Rattle.common.specs.First.{Rule, _on_, NoneOf, earlier, not-on, _also_, none-append, none-left, decides-bool, decides-eq, stable}
 use Rattle.common.specs.Decided.{test-false}
 use Rattle.common.specs.Same.{decides-same}
-use Rattle.base64url.specs.Base64url.{encode, strict}
-use Rattle.base64url.specs.RoundTrip.{strict-encode, decode-bytes}
+use Rattle.base64url_rules.specs.Base64url.{encode, strict}
+use Rattle.base64url_rules.specs.RoundTrip.{strict-encode, decode-bytes}
 use Rattle.json.specs.Answers.{longest}
 use Rattle.keytable.specs.Table.{Wellformed, keys}
 use Rattle.keytable.specs.TableLaws.{decides-good}

@@ -9,9 +9,9 @@ use lib.ListN.{length, replicate, length-append, length-replicate}
 use Rattle.common.specs.Bytes.{Bytes, none, more}
 use Rattle.common.specs.First.{NoneOf, _on_, earlier, first, none-stands, none-append, _also_}
 use Rattle.common.specs.Same.{same}
-use Rattle.base64url.specs.Alphabet.{character, value}
-use Rattle.base64url.specs.Base64url.{encode, decode, alphabetic, unusedBits, strict}
-use Rattle.base64url.specs.LengthLaws.{length-encode, encoded-length}
+use Rattle.base64url_rules.specs.Alphabet.{character, value}
+use Rattle.base64url_rules.specs.Base64url.{encode, decode, alphabetic, unusedBits, strict}
+use Rattle.base64url_rules.specs.LengthLaws.{length-encode, encoded-length}
 use Rattle.json_grammar.specs.Bytes.{within, isWs}
 use Rattle.json_grammar.specs.Value.{among, repeated, names, twice, plainMembers}
 use Rattle.json_grammar.specs.Reader.{skip, isUnescaped1, charLead, readChar, readChars, valueLead, readValue, read}

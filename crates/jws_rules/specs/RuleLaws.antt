@@ -9,7 +9,7 @@ use lib.ListN.{length}
 use Rattle.common.specs.First.{NoneOf, earlier, not-on, _also_, first, Decides, Agree, done, _by_, none-stands, agree-append, decides-bool, decides-lt, decides-eq, decides-not, decides-or, decides-iff}
 use Rattle.common.specs.Decided.{when-false, decides-false}
 use Rattle.common.specs.Same.{same, decides-same}
-use Rattle.base64url.specs.Base64url.{strict}
+use Rattle.base64url_rules.specs.Base64url.{strict}
 use Rattle.hmac.specs.Hmac.{HMACSHA256}
 use Rattle.json.specs.Answers.{longest}
 use Rattle.keytable.specs.Key.{Distinct}

@@ -8,7 +8,7 @@ use Prim.Native.Nat.{ℕ, _≤_, _<_}
 use lib.ListN.{length}
 use Rattle.common.specs.Bytes.{Bytes}
 use Rattle.common.specs.First.{Rule, _on_}
-use Rattle.base64url.specs.Base64url.{strict}
+use Rattle.base64url_rules.specs.Base64url.{strict}
 use Rattle.hmac.specs.Hmac.{HMACSHA256}
 use Rattle.json.specs.Answers.{longest}
 use Rattle.keytable.specs.Table.{Wellformed, keys}

@@ -9,8 +9,8 @@ use lib.ListN.{length}
 use Rattle.common.specs.First.{NoneOf, earlier, _also_}
 use Rattle.json_grammar.specs.Reader.{skip, read}
 use Rattle.json_grammar.specs.Unique.{not-derived}
-use Rattle.base64url.specs.Base64url.{encode, decode, alphabetic, unusedBits, strict}
-use Rattle.base64url.specs.LengthLaws.{length-encode}
+use Rattle.base64url_rules.specs.Base64url.{encode, decode, alphabetic, unusedBits, strict}
+use Rattle.base64url_rules.specs.LengthLaws.{length-encode}
 use Rattle.hmac.specs.HmacLaws.{length-HMACSHA256}
 use Rattle.json.specs.Answers.{deepest}
 use Rattle.keytable.specs.Table.{Wellformed, keys}

@@ -4,8 +4,8 @@ use mathlib.Core.Bool.{true, false}
 use mathlib.Core.List.{List, []}
 use Prim.Native.Nat.{ℕ, suc}
 use Rattle.common.specs.Same.{same}
-use Rattle.base64url.specs.Base64url.{encode, decode, strict}
-use Rattle.base64url.specs.Examples.{bytes as example, JC4wM, examples}
+use Rattle.base64url_rules.specs.Base64url.{encode, decode, strict}
+use Rattle.base64url_rules.specs.Examples.{bytes as example, JC4wM, examples}
 use Rattle.json_grammar.specs.Bytes.{within, isWs, isDigit, isDigit19, isE, isSign, isHex, allHex, hex4}
 use Rattle.json_grammar.specs.Value.{among, repeated, names, twice, plain, plainMembers}
 use Rattle.json_grammar.specs.Grammar.{Derivation, bytes, readingOf}

@@ -6,7 +6,7 @@ use lib.Dec.{ltb, eqb}
 use lib.ListN.{length}
 use Rattle.common.specs.First.{Test, _when_, first}
 use Rattle.common.specs.Same.{same}
-use Rattle.base64url.specs.Base64url.{strict}
+use Rattle.base64url_rules.specs.Base64url.{strict}
 use Rattle.hmac.specs.Hmac.{HMACSHA256}
 use Rattle.json.specs.Answers.{longest}
 use Rattle.keytable.specs.Table.{badTable, keys}

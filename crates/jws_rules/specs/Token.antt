@@ -2,7 +2,7 @@
 use mathlib.Core.List.{List}
 use Prim.Native.Nat.{ℕ, _+_}
 use lib.ListN.{length}
-use Rattle.base64url.specs.Base64url.{encode, encodedLength, decode}
+use Rattle.base64url_rules.specs.Base64url.{encode, encodedLength, decode}
 use Rattle.hmac.specs.Hmac.{HMACSHA256}
 use Rattle.keytable.specs.Key.{key}
 use Rattle.keytable.specs.Table.{keys}

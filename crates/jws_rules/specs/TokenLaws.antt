@@ -7,10 +7,10 @@ use native.Mathlib.Omega.{arith}
 use lib.Dec.{eqb}
 use lib.ListN.{length}
 use Rattle.common.specs.Bytes.{Bytes}
-use Rattle.base64url.specs.Base64url.{encode, decode, strict}
-use Rattle.base64url.specs.LengthLaws.{length-encode}
-use Rattle.base64url.specs.RoundTrip.{decode-encode, encode-decode}
-use Rattle.base64url.specs.TextLaws.{lacks, no-period, alphabetic-encode}
+use Rattle.base64url_rules.specs.Base64url.{encode, decode, strict}
+use Rattle.base64url_rules.specs.LengthLaws.{length-encode}
+use Rattle.base64url_rules.specs.RoundTrip.{decode-encode, encode-decode}
+use Rattle.base64url_rules.specs.TextLaws.{lacks, no-period, alphabetic-encode}
 use Rattle.hmac.specs.Hmac.{HMACSHA256}
 use Rattle.hmac.specs.HmacLaws.{length-HMACSHA256, bytes-HMACSHA256}
 use Rattle.jws_rules.specs.Segments.{period, periods, front, back, _dot_}

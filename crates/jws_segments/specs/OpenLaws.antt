@@ -9,12 +9,12 @@ use lib.ListN.{length, take, length-take, length-replicate}
 use lib.Seq.{take-all, take-append-seam}
 use borrow.Author.Tests.{lt-ltb, le-ltb, ltb-false, eqb-true}
 use Rattle.common.specs.First.{_when_, first, all-pass}
-use Rattle.base64url.specs.Base64url.{decode, strict, decodedLength}
-use Rattle.base64url.specs.LengthLaws.{length-decode}
-use Rattle.base64url.specs.Outcome.{decodedTo, decoding}
-use Rattle.base64url.specs.OutcomeLaws.{Judged, written, faulty, short, judge}
-use Rattle.base64url.specs.declared.Decoded.{Decoded}
-use Rattle.base64url.specs.declared.Decoded.the-variants.{Bytes, Fault, Short}
+use Rattle.base64url_rules.specs.Base64url.{decode, strict, decodedLength}
+use Rattle.base64url_rules.specs.LengthLaws.{length-decode}
+use Rattle.base64url_rules.specs.Outcome.{decodedTo, decoding}
+use Rattle.base64url_rules.specs.OutcomeLaws.{Judged, written, faulty, short, judge}
+use Rattle.base64url_rules.specs.declared.Decoded.{Decoded}
+use Rattle.base64url_rules.specs.declared.Decoded.the-variants.{Bytes, Fault, Short}
 use Rattle.json.specs.Answers.{longest}
 use Rattle.jws_segments.specs.declared.signature.Signature.{Signature}
 use Rattle.jws_segments.specs.declared.opening.Opened.{Opened}

@@ -7,7 +7,7 @@ use lib.Dec.{ltb, eqb}
 use lib.ListN.{length, take}
 use Rattle.common.specs.First.{Test, _when_, first}
 use Rattle.common.specs.Same.{same}
-use Rattle.base64url.specs.Base64url.{decode, strict}
+use Rattle.base64url_rules.specs.Base64url.{decode, strict}
 use Rattle.json.specs.Answers.{longest}
 use Rattle.jws_segments.specs.declared.signature.Signature.{Signature}
 use Rattle.jws_segments.specs.declared.opening.Opened.{Opened}

@@ -1,6 +1,6 @@
 // Decoding one segment.
 ghost use mathlib.Core.Path.{_≡_};
-ghost use Rattle.base64url.specs.Tables.{values};
+ghost use Rattle.base64url_rules.specs.Tables.{values};
 ghost use Rattle.jws_segments.specs.Opening.{DecodedInto};
 use base64url::Decoded;
 use base64url::decode_with;

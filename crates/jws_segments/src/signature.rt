@@ -1,6 +1,6 @@
 // A token's signature.
 ghost use mathlib.Core.Path.{_≡_};
-ghost use Rattle.base64url.specs.Tables.{values};
+ghost use Rattle.base64url_rules.specs.Tables.{values};
 ghost use Rattle.jws_segments.specs.Opening.{Holds, isMac};
 use crate::equal::equal;
 use crate::segment::decode_segment;

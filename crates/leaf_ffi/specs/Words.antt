@@ -1,9 +1,9 @@
 -- The answers of decoding and encoding as two words, and the lent buffer.
 use mathlib.Core.List.{List, [], _∷_}
 use Prim.Native.Nat.{ℕ}
-use Rattle.base64url.specs.declared.Decoded.{Decoded}
-use Rattle.base64url.specs.declared.Encoded.{Encoded}
-use Rattle.base64url.specs.Outcome.{Decoding, Encoding}
+use Rattle.base64url_rules.specs.declared.Decoded.{Decoded}
+use Rattle.base64url_rules.specs.declared.Encoded.{Encoded}
+use Rattle.base64url_rules.specs.Outcome.{Decoding, Encoding}
 
 -- 0 and how many bytes were written, 1 and the place of the fault, 2 and 0 for a buffer that is too short
 abbrev pub decodedWords : Decoded → List ℕ

@@ -6,10 +6,10 @@ use Prim.Native.Nat.{_<_}
 use native.Mathlib.Omega.{arith}
 use lib.ListN.{length}
 use borrow.Author.Needs.{needs}
-use Rattle.base64url.specs.Base64url.{decode, strict}
-use Rattle.base64url.specs.LengthLaws.{length-decode}
-use Rattle.base64url.specs.OutcomeLaws.{accepted, refused}
-use Rattle.base64url.specs.StrictGroups.{no}
+use Rattle.base64url_rules.specs.Base64url.{decode, strict}
+use Rattle.base64url_rules.specs.LengthLaws.{length-decode}
+use Rattle.base64url_rules.specs.OutcomeLaws.{accepted, refused}
+use Rattle.base64url_rules.specs.StrictGroups.{no}
 use Rattle.base64url.proofs.decode_with.Statement.{statement}
 use Rattle.base64url.proofs.decode_with.Tie as tie
 

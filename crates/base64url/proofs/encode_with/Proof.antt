@@ -3,9 +3,9 @@ use mathlib.Core.Path.{_≡_, sym, _∙_}
 use native.Mathlib.Omega.{arith}
 use lib.ListN.{length}
 use borrow.Author.Needs.{needs}
-use Rattle.base64url.specs.Base64url.{encode}
-use Rattle.base64url.specs.LengthLaws.{length-encode}
-use Rattle.base64url.specs.OutcomeLaws.{roomy, tight}
+use Rattle.base64url_rules.specs.Base64url.{encode}
+use Rattle.base64url_rules.specs.LengthLaws.{length-encode}
+use Rattle.base64url_rules.specs.OutcomeLaws.{roomy, tight}
 use Rattle.base64url.proofs.encode_with.Statement.{statement}
 use Rattle.base64url.proofs.encode_with.Tie as tie
 

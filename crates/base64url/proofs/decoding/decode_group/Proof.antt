@@ -3,8 +3,8 @@ use mathlib.Core.Path.{sym, _∙_}
 use native.Mathlib.Omega.{arith}
 use borrow.Author.Needs.{needs}
 use borrow.Author.Tests.{lt-ltb, le-ltb}
-use Rattle.base64url.specs.Base64url.{decode}
-use Rattle.base64url.specs.StrictGroups.{no}
+use Rattle.base64url_rules.specs.Base64url.{decode}
+use Rattle.base64url_rules.specs.StrictGroups.{no}
 use Rattle.base64url.proofs.GroupTest.{Small, below, group-test}
 use Rattle.base64url.proofs.decoding.decode_group.Statement.{statement}
 use Rattle.base64url.proofs.decoding.decode_group.Tie as tie

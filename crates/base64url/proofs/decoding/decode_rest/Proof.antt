@@ -7,7 +7,7 @@ use Prim.Native.Nat.{ℕ}
 use native.Mathlib.Omega.{arith}
 use lib.ListN.{getD, set, length-set}
 use borrow.Author.Needs.{needs}
-use Rattle.base64url.specs.Tables.{entries}
+use Rattle.base64url_rules.specs.Tables.{entries}
 use Rattle.base64url.specs.Writing.{Decodes}
 use Rattle.base64url.proofs.DecodeLaws.{nothing}
 use Rattle.base64url.proofs.Listed.{listed}

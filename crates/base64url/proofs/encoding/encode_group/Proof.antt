@@ -1,6 +1,6 @@
 -- `encode_group` meets its contract, character by character.
 use borrow.Author.Needs.{needs}
-use Rattle.base64url.specs.Base64url.{encode}
+use Rattle.base64url_rules.specs.Base64url.{encode}
 use Rattle.base64url.proofs.encoding.encode_group.Statement.{statement}
 use Rattle.base64url.proofs.encoding.encode_group.Tie as tie
 

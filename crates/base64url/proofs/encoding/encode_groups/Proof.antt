@@ -4,8 +4,8 @@ use Prim.Native.Nat.{_+_, _≤_, _-_, _*_}
 use native.Mathlib.Omega.{arith}
 use lib.ListN.{length, take, length-set}
 use lib.Seq.{take-all}
-use Rattle.base64url.specs.Base64url.{encode}
-use Rattle.base64url.specs.Outcome.{laid}
+use Rattle.base64url_rules.specs.Base64url.{encode}
+use Rattle.base64url_rules.specs.Outcome.{laid}
 use Rattle.base64url.proofs.EncodeLaws.{one-more}
 use Rattle.base64url.proofs.encoding.encode_groups.Statement.{statement}
 use Rattle.base64url.proofs.encoding.encode_groups.Tie as tie

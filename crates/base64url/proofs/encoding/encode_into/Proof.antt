@@ -5,7 +5,7 @@ use native.Mathlib.Omega.{arith}
 use lib.ListN.{length, take}
 use lib.Seq.{length-take-le}
 use borrow.Author.Needs.{needs}
-use Rattle.base64url.specs.LengthLaws.{encoded-length}
+use Rattle.base64url_rules.specs.LengthLaws.{encoded-length}
 use Rattle.base64url.proofs.EncodeLaws.{rest-fits, whole}
 use Rattle.base64url.proofs.encoding.encode_into.Statement.{statement}
 use Rattle.base64url.proofs.encoding.encode_into.Tie as tie

@@ -5,10 +5,10 @@ use Prim.Native.Nat.{ℕ}
 use native.Mathlib.Omega.{arith}
 use lib.ListN.{length, set, length-set}
 use borrow.Author.Needs.{needs}
-use Rattle.base64url.specs.Base64url.{encode}
-use Rattle.base64url.specs.LengthLaws.{encoded-length}
-use Rattle.base64url.specs.Outcome.{laid}
-use Rattle.base64url.specs.Tables.{entries}
+use Rattle.base64url_rules.specs.Base64url.{encode}
+use Rattle.base64url_rules.specs.LengthLaws.{encoded-length}
+use Rattle.base64url_rules.specs.Outcome.{laid}
+use Rattle.base64url_rules.specs.Tables.{entries}
 use Rattle.base64url.proofs.Listed.{listed}
 use Rattle.base64url.proofs.RestLaws.{one-byte, two-bytes}
 use Rattle.base64url.proofs.encoding.encode_rest.Statement.{statement}

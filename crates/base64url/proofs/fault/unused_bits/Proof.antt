@@ -4,7 +4,7 @@ use native.Mathlib.Omega.{arith}
 use lib.ListN.{length}
 use borrow.Author.Needs.{needs}
 use borrow.Author.Tests.{eq-eqb, ne-eqb}
-use Rattle.base64url.specs.Base64url.{unusedBits}
+use Rattle.base64url_rules.specs.Base64url.{unusedBits}
 use Rattle.base64url.proofs.fault.unused_bits.Statement.{statement}
 use Rattle.base64url.proofs.fault.unused_bits.Tie as tie
 

@@ -1,7 +1,7 @@
 -- An entry of the alphabet is the character of its place.
 use borrow.Author.Needs.{needs}
-use Rattle.base64url.specs.Alphabet.{character}
-use Rattle.base64url.specs.Tables.{characters, entry}
+use Rattle.base64url_rules.specs.Alphabet.{character}
+use Rattle.base64url_rules.specs.Tables.{characters, entry}
 use Rattle.base64url.proofs.tables.character_of.Statement.{statement}
 use Rattle.base64url.proofs.tables.character_of.Tie as tie
 

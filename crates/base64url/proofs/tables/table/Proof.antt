@@ -1,8 +1,8 @@
 -- The constant is the list that the definition computes.
 use mathlib.Core.Path.{refl}
 use Rattle.common.specs.Ranges.{within}
-use Rattle.base64url.specs.Alphabet.{value}
-use Rattle.base64url.specs.Tables.{entries, values}
+use Rattle.base64url_rules.specs.Alphabet.{value}
+use Rattle.base64url_rules.specs.Tables.{entries, values}
 use Rattle.base64url.proofs.tables.table.Statement.{statement}
 use Rattle.base64url.proofs.tables.table.Tie as tie
 

@@ -1,7 +1,7 @@
 -- An entry of the table is the value of its place.
 use borrow.Author.Needs.{needs}
-use Rattle.base64url.specs.Alphabet.{value}
-use Rattle.base64url.specs.Tables.{values, entry}
+use Rattle.base64url_rules.specs.Alphabet.{value}
+use Rattle.base64url_rules.specs.Tables.{values, entry}
 use Rattle.base64url.proofs.tables.value_of.Statement.{statement}
 use Rattle.base64url.proofs.tables.value_of.Tie as tie
 

@@ -1,7 +1,7 @@
 -- `compose` meets its contract: the MAC is taken of the front, and its segment stands behind it.
 use native.Mathlib.Omega.{arith}
 use borrow.Author.Needs.{needs}
-use Rattle.base64url.specs.Base64url.{encode}
+use Rattle.base64url_rules.specs.Base64url.{encode}
 use Rattle.jws_rules.specs.SegmentLaws.{length-dot}
 use Rattle.jws.proofs.FrontLaws.{length-text, token-laid}
 use Rattle.jws.proofs.making.compose.Statement.{statement}

@@ -3,7 +3,7 @@ use mathlib.Core.Path.{refl, sym, _∙_}
 use native.Mathlib.Omega.{arith}
 use lib.ListN.{length}
 use borrow.Author.Needs.{needs}
-use Rattle.base64url.specs.LengthLaws.{encoded-length}
+use Rattle.base64url_rules.specs.LengthLaws.{encoded-length}
 use Rattle.jws_rules.specs.Token.{tokenOf}
 use Rattle.jws_rules.specs.TokenLaws.{length-token}
 use Rattle.jws.proofs.SignLaws.{finished-size, payload-long, too-long, too-short, fitting}

@@ -3,7 +3,7 @@ use mathlib.Core.Path.{_∙_}
 use native.Mathlib.Omega.{arith}
 use lib.ListN.{length-set}
 use borrow.Author.Needs.{needs}
-use Rattle.base64url.specs.LengthLaws.{length-encode}
+use Rattle.base64url_rules.specs.LengthLaws.{length-encode}
 use Rattle.jws.proofs.FrontLaws.{segment-front}
 use Rattle.jws.proofs.making.segment.Statement.{statement}
 use Rattle.jws.proofs.making.segment.Tie as tie

@@ -1,8 +1,8 @@
 -- `signing_input` meets its contract: the header's text, and the payload's segment behind it.
 use native.Mathlib.Omega.{arith}
 use borrow.Author.Needs.{needs}
-use Rattle.base64url.specs.Base64url.{encode}
-use Rattle.base64url.specs.LengthLaws.{length-encode}
+use Rattle.base64url_rules.specs.Base64url.{encode}
+use Rattle.base64url_rules.specs.LengthLaws.{length-encode}
 use Rattle.jws.proofs.FrontLaws.{text-front, front-more}
 use Rattle.jws.proofs.making.signing_input.Statement.{statement}
 use Rattle.jws.proofs.making.signing_input.Tie as tie

@@ -4,7 +4,7 @@ use mathlib.Core.List.{List, [], _∷_}
 use Prim.Native.Nat.{ℕ, _+_, _-_, _*_, _/_, _%_}
 use lib.Dec.{eqb}
 use lib.ListN.{length, getD}
-use Rattle.base64url.specs.Alphabet.{value, character, inAlphabet}
+use Rattle.base64url_rules.specs.Alphabet.{value, character, inAlphabet}
 
 -- section 4: three bytes are four characters of six bits each, the highest first; a last group of one or two bytes is filled up with zero bits to two or three characters
 unfoldable pub encode : List ℕ → List ℕ

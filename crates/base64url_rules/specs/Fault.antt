@@ -5,8 +5,8 @@ use mathlib.Core.Option.{Option, none, some}
 use Prim.Native.Nat.{ℕ, suc, _-_}
 use lib.Dec.{ltb, eqb}
 use lib.ListN.{length}
-use Rattle.base64url.specs.Alphabet.{inAlphabet}
-use Rattle.base64url.specs.Base64url.{badLength, unusedBits}
+use Rattle.base64url_rules.specs.Alphabet.{inAlphabet}
+use Rattle.base64url_rules.specs.Base64url.{badLength, unusedBits}
 
 -- the place of the first character outside the alphabet, or the text's length
 unfoldable pub firstOutside : List ℕ → ℕ

@@ -5,11 +5,11 @@ use mathlib.Core.List.{List, [], _∷_}
 use Prim.Native.Nat.{ℕ, _+_, _*_, _/_, _%_}
 use native.Mathlib.Omega.{arith}
 use Rattle.common.specs.Bytes.{Bytes, none, more}
-use Rattle.base64url.specs.Alphabet.{value}
-use Rattle.base64url.specs.AlphabetLaws.{value-character, character-in-alphabet}
-use Rattle.base64url.specs.Base64url.{encode, decode, alphabetic, unusedBits, strict, byte1, byte2, byte3}
-use Rattle.base64url.specs.GroupLaws.{strict-append, strict-groups}
-use Rattle.base64url.specs.StrictGroups.{done, _and_, Strict, nothing, two, three, four, by-groups}
+use Rattle.base64url_rules.specs.Alphabet.{value}
+use Rattle.base64url_rules.specs.AlphabetLaws.{value-character, character-in-alphabet}
+use Rattle.base64url_rules.specs.Base64url.{encode, decode, alphabetic, unusedBits, strict, byte1, byte2, byte3}
+use Rattle.base64url_rules.specs.GroupLaws.{strict-append, strict-groups}
+use Rattle.base64url_rules.specs.StrictGroups.{done, _and_, Strict, nothing, two, three, four, by-groups}
 
 pub decode-encode : {s : List ℕ} → Bytes s → decode (encode s) ≡ s
 unfolding decode encode

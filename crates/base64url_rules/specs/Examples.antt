@@ -5,9 +5,9 @@ use mathlib.Core.List.{List, [], _∷_}
 use mathlib.Core.Option.{none, some}
 use Prim.Native.Nat.{ℕ}
 use Rattle.common.specs.Ranges.{within}
-use Rattle.base64url.specs.Alphabet.{value, character}
-use Rattle.base64url.specs.Base64url.{encode, decode, alphabetic, unusedBits, strict}
-use Rattle.base64url.specs.Fault.{firstOutside, fault}
+use Rattle.base64url_rules.specs.Alphabet.{value, character}
+use Rattle.base64url_rules.specs.Base64url.{encode, decode, alphabetic, unusedBits, strict}
+use Rattle.base64url_rules.specs.Fault.{firstOutside, fault}
 
 -- 36 46 48 50, and `JC4wMg`, with a character after it or in the place of its last
 abbrev pub bytes : List ℕ

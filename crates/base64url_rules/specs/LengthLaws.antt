@@ -8,7 +8,7 @@ use native.Mathlib.Omega.{arith}
 use lib.Dec.{eqb}
 use lib.ListN.{length}
 use borrow.Author.Tests.{eqb-true, eqb-false}
-use Rattle.base64url.specs.Base64url.{encode, decode, encodedLength, decodedLength}
+use Rattle.base64url_rules.specs.Base64url.{encode, decode, encodedLength, decodedLength}
 
 pub length-decode : (s : List ℕ) → length (decode s) ≡ decodedLength (length s)
 unfolding decode

@@ -7,8 +7,8 @@ use native.Mathlib.Omega.{arith}
 use lib.Dec.{eqb}
 use lib.ListN.{length, length-append}
 use lib.Seq.{getD-append-add}
-use Rattle.base64url.specs.Alphabet.{inAlphabet}
-use Rattle.base64url.specs.Base64url.{encode, decode, alphabetic, unusedBits, badLength, strict}
+use Rattle.base64url_rules.specs.Alphabet.{inAlphabet}
+use Rattle.base64url_rules.specs.Base64url.{encode, decode, alphabetic, unusedBits, badLength, strict}
 
 pub decode-append : (s t : List ℕ) → length s % 4 ≡ 0 → decode (s ++ t) ≡ decode s ++ decode t
 unfolding decode

@@ -6,10 +6,10 @@ use Prim.Native.Nat.{ℕ}
 use lib.Dec.{leb}
 use lib.ListN.{length}
 pub use Rattle.common.specs.Buffer.{laid, cleared}
-use Rattle.base64url.specs.Base64url.{encode, decode}
-use Rattle.base64url.specs.Fault.{fault}
-use Rattle.base64url.specs.declared.Decoded.{Decoded}
-use Rattle.base64url.specs.declared.Encoded.{Encoded}
+use Rattle.base64url_rules.specs.Base64url.{encode, decode}
+use Rattle.base64url_rules.specs.Fault.{fault}
+use Rattle.base64url_rules.specs.declared.Decoded.{Decoded}
+use Rattle.base64url_rules.specs.declared.Encoded.{Encoded}
 
 -- an answer, and what the buffer holds then
 pub record Decoding : Type 0 where

@@ -6,10 +6,10 @@ use Prim.Native.Nat.{ℕ, _%_, _<_}
 use native.Mathlib.Omega.{arith}
 use lib.Dec.{eqb}
 use borrow.Author.Tests.{ltb-true, eqb-true}
-use Rattle.base64url.specs.Alphabet.{value, character, inAlphabet}
-use Rattle.base64url.specs.AlphabetLaws.{character-value}
-use Rattle.base64url.specs.Base64url.{alphabetic, unusedBits, strict}
-use Rattle.base64url.specs.GroupLaws.{strict-append, strict-groups}
+use Rattle.base64url_rules.specs.Alphabet.{value, character, inAlphabet}
+use Rattle.base64url_rules.specs.AlphabetLaws.{character-value}
+use Rattle.base64url_rules.specs.Base64url.{alphabetic, unusedBits, strict}
+use Rattle.base64url_rules.specs.GroupLaws.{strict-append, strict-groups}
 
 -- no test is both false and true
 pub no : false ≡ true → ⊥

@@ -6,8 +6,8 @@ use native.Mathlib.Omega.{arith}
 use lib.Dec.{ltb}
 use borrow.Author.Tests.{lt-ltb, ltb-true, ltb-false, ne-eqb}
 use Rattle.common.specs.Ranges.{within, above}
-use Rattle.base64url.specs.Alphabet.{value, character, inAlphabet}
-use Rattle.base64url.specs.Tables.{entries, agree}
+use Rattle.base64url_rules.specs.Alphabet.{value, character, inAlphabet}
+use Rattle.base64url_rules.specs.Tables.{entries, agree}
 
 -- for all values at once, by one computed table
 pub value-character : (v : ℕ) → v < 64 → value (character v) ≡ v

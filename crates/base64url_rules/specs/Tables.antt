@@ -4,7 +4,7 @@ use mathlib.Core.List.{List, [], _∷_}
 use Prim.Native.Nat.{ℕ, zero, suc, _+_, _<_}
 use native.Mathlib.Nat.{add-zero, zero-add, add-suc, suc-add, le-of-suc-le-suc, not-suc-le-zero}
 use lib.ListN.{getD}
-use Rattle.base64url.specs.Alphabet.{value, character}
+use Rattle.base64url_rules.specs.Alphabet.{value, character}
 
 -- what f gives for the n numbers from i on
 unfoldable pub entries : (ℕ → ℕ) → ℕ → ℕ → List ℕ

@@ -10,10 +10,10 @@ use native.Mathlib.Omega.{arith}
 use lib.Dec.{ltb, eqb, leb·suc-suc}
 use lib.ListN.{length}
 use borrow.Author.Tests.{lt-ltb, ltb-true}
-use Rattle.base64url.specs.Alphabet.{inAlphabet}
-use Rattle.base64url.specs.Base64url.{alphabetic, unusedBits, badLength, strict}
-use Rattle.base64url.specs.Fault.{firstOutside, fault}
-use Rattle.base64url.specs.StrictGroups.{no}
+use Rattle.base64url_rules.specs.Alphabet.{inAlphabet}
+use Rattle.base64url_rules.specs.Base64url.{alphabetic, unusedBits, badLength, strict}
+use Rattle.base64url_rules.specs.Fault.{firstOutside, fault}
+use Rattle.base64url_rules.specs.StrictGroups.{no}
 
 outside : (s : List ℕ) → ltb (firstOutside s) (length s) ≡ not (alphabetic s)
 unfolding firstOutside alphabetic
