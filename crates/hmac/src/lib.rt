@@ -3,7 +3,7 @@ ghost use mathlib.Core.Path.{_≡_};
 ghost use Prim.Native.Nat.{ℕ};
 ghost use mathlib.Core.List.{_++_, map};
 ghost use lib.Bits.{bitXor};
-ghost use Rattle.sha2.specs.Parameters.{K as RoundConstants};
+ghost use Rattle.sha2_compression.specs.Parameters.{K as RoundConstants};
 ghost use Rattle.sha2.specs.Hash.{SHA256};
 ghost use Rattle.hmac.specs.Hmac.{keyBlock, HMACSHA256};
 

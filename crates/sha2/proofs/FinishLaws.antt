@@ -5,7 +5,7 @@ use Prim.Native.Nat.{ℕ, _+_, _-_, _*_, _/_, _%_}
 use native.Mathlib.Omega.{arith}
 use lib.ListN.{length, take, drop, length-drop}
 use lib.Seq.{take-all}
-use Rattle.sha2.specs.Parameters.{sha-256}
+use Rattle.sha2_compression.specs.Parameters.{sha-256}
 use Rattle.sha2.specs.Hash.{wordBytes, padding, hashValue, hashAfter}
 use Rattle.sha2.specs.BlockLaws.{in-parts}
 use Rattle.sha2.proofs.PaddedLaws.{ends}

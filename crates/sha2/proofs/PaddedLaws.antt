@@ -8,7 +8,7 @@ use lib.ListN.{length, take, drop, set, replicate, length-append, length-replica
 use lib.Seq.{paste, take-length, take-append-add, set-append-seam}
 use Rattle.common.specs.BigEndian.{bigEndian, length-bigEndian}
 use Rattle.common.specs.Buffer.{take-replicate, drop-replicate}
-use Rattle.sha2.specs.Parameters.{Parameters, sha-256}
+use Rattle.sha2_compression.specs.Parameters.{Parameters, sha-256}
 use Rattle.sha2.specs.Hash.{lengthBytes, zeros, padding}
 use Rattle.sha2.specs.PaddingLaws.{length-padding}
 use Rattle.sha2.proofs.ListLaws.{copied}

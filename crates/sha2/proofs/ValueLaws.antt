@@ -8,8 +8,8 @@ use native.Mathlib.Omega.{arith}
 use lib.ListN.{length, getD, take, drop}
 use lib.Seq.{paste}
 use Rattle.common.specs.BigEndian.{bigEndian, length-bigEndian}
-use Rattle.sha2.specs.Parameters.{sha-256}
-use Rattle.sha2.specs.Compression.{compressed}
+use Rattle.sha2_compression.specs.Parameters.{sha-256}
+use Rattle.sha2_compression.specs.Compression.{compressed}
 use Rattle.sha2.specs.Hash.{hashValue, wordBytes}
 use Rattle.sha2.proofs.ListLaws.{copied}
 

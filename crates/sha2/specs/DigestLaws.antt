@@ -6,7 +6,7 @@ use native.Mathlib.Nat.{zero-mul, suc-mul}
 use lib.ListN.{length, getD, length-append}
 use Rattle.common.specs.Bytes.{Bytes, none, bytes-append}
 use Rattle.common.specs.BigEndian.{bigEndian, length-bigEndian, bytes-bigEndian}
-use Rattle.sha2.specs.Parameters.{Parameters, sha-256}
+use Rattle.sha2_compression.specs.Parameters.{Parameters, sha-256}
 use Rattle.sha2.specs.Hash.{wordBytes, hash, SHA256}
 
 pub length-wordBytes : (b : ℕ) (h : List ℕ) (n : ℕ) → length (wordBytes b h n) ≡ n * b

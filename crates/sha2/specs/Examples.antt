@@ -2,8 +2,8 @@
 use mathlib.Core.Path.{_≡_, refl}
 use mathlib.Core.List.{List, [], _∷_}
 use Rattle.common.specs.BigEndian.{bigEndian}
-use Rattle.sha2.specs.Parameters.{K, H0}
-use Rattle.sha2.specs.Compression.{nextWord, schedule, round, rounds, sums, compressed}
+use Rattle.sha2_compression.specs.Parameters.{K, H0}
+use Rattle.sha2_compression.specs.Compression.{nextWord, schedule, round, rounds, sums, compressed}
 use Rattle.sha2.specs.Hash.{wordBytes, padding, padded, hashValue, hash, SHA256}
 
 pub record Examples : Type 0 where

@@ -1,6 +1,3 @@
-pub mod Words
-pub mod Parameters
-pub mod Compression
 pub mod Hash
 pub mod Examples
 pub mod BlockLaws

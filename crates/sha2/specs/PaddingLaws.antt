@@ -5,7 +5,7 @@ use Prim.Native.Nat.{ℕ, _+_, _-_, _*_, _%_, _≤_}
 use native.Mathlib.Omega.{arith}
 use lib.ListN.{length, replicate, length-append, length-replicate}
 use Rattle.common.specs.BigEndian.{bigEndian, length-bigEndian}
-use Rattle.sha2.specs.Parameters.{Parameters, sha-256}
+use Rattle.sha2_compression.specs.Parameters.{Parameters, sha-256}
 use Rattle.sha2.specs.Hash.{blockBytes, lengthBytes, zeros, padding}
 
 pub length-padding : (P : Parameters) (n : ℕ) → length (padding P n) ≡ 1 + zeros P n + lengthBytes P

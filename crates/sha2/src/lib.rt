@@ -1,18 +1,16 @@
-// SHA-256 (FIPS 180-4). `sha256` hashes a message; the other functions let a caller go on from a block boundary, as HMAC does.
-mod compress;
+// SHA-256 (FIPS 180-4). `sha256` hashes a message; the other functions let a caller go on from a block boundary, as HMAC does. A block is
+// compressed by crate `sha2_compression`.
 mod digest;
 mod padding;
-mod schedule;
-mod words;
 
-use compress::compress;
-pub use compress::constants;
 use digest::digest;
 use padding::last_blocks;
+use sha2_compression::compress::compress;
+pub use sha2_compression::constants;
 ghost use mathlib.Core.Path.{_≡_};
 ghost use Prim.Native.Nat.{_/_, _%_, _^_, _<_};
 ghost use lib.ListN.{length};
-ghost use Rattle.sha2.specs.Parameters.{K as RoundConstants, H0, sha-256};
+ghost use Rattle.sha2_compression.specs.Parameters.{K as RoundConstants, H0, sha-256};
 ghost use Rattle.sha2.specs.Hash.{hashValue, hashAfter, SHA256};
 
 // The initial hash value. Rules out SHA-224's first word, and two words that changed places.

@@ -4,7 +4,7 @@ ghost use Prim.Native.Nat.{_+_, _%_};
 ghost use mathlib.Core.List.{_++_};
 ghost use lib.ListN.{length, take};
 ghost use Rattle.common.specs.BigEndian.{bigEndian};
-ghost use Rattle.sha2.specs.Parameters.{sha-256};
+ghost use Rattle.sha2_compression.specs.Parameters.{sha-256};
 ghost use Rattle.sha2.specs.Hash.{padding};
 
 // The eight bytes of a number, the highest first.

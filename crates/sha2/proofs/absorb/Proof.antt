@@ -3,7 +3,7 @@ use mathlib.Core.Path.{_≡_, refl}
 use Prim.Native.Nat.{_-_, _/_, _%_, _≤_}
 use native.Mathlib.Omega.{arith}
 use lib.ListN.{length, length-take, length-drop}
-use Rattle.sha2.specs.Parameters.{sha-256}
+use Rattle.sha2_compression.specs.Parameters.{sha-256}
 use Rattle.sha2.specs.Hash.{hashValue}
 use Rattle.sha2.proofs.ValueLaws.{one-block}
 use Rattle.sha2.proofs.absorb.Statement.{statement}

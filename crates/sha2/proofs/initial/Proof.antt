@@ -1,6 +1,6 @@
 -- `sha2::initial` meets its contract.
 use mathlib.Core.Path.{refl}
-use Rattle.sha2.specs.Parameters.{H0}
+use Rattle.sha2_compression.specs.Parameters.{H0}
 use Rattle.sha2.proofs.initial.Statement.{statement}
 use Rattle.sha2.proofs.initial.Tie as tie
 

@@ -3,7 +3,7 @@ use mathlib.Core.Path.{refl, _∙_}
 use mathlib.Core.List.{[]}
 use native.Mathlib.Omega.{arith}
 use borrow.Author.Needs.{needs}
-use Rattle.sha2.specs.Parameters.{sha-256}
+use Rattle.sha2_compression.specs.Parameters.{sha-256}
 use Rattle.sha2.specs.Hash.{hashValue}
 use Rattle.sha2.specs.BlockLaws.{after-blocks}
 use Rattle.sha2.proofs.sha256.Statement.{statement}

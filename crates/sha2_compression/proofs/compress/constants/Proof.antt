@@ -1,0 +1,12 @@
+-- `sha2_compression::compress::constants` meets its contract.
+use mathlib.Core.Path.{refl}
+use Rattle.sha2_compression.specs.Parameters.{K}
+use Rattle.sha2_compression.proofs.compress.constants.Statement.{statement}
+use Rattle.sha2_compression.proofs.compress.constants.Tie as tie
+
+returns : tie.Need-returns
+unfolding K
+returns c = refl
+
+pub constants-spec : {M : Type 1} → statement M
+constants-spec = tie.close (tie.spec returns)
