@@ -29,7 +29,8 @@ pub fn initial() -> [u32; 8]
     ]
 }
 
-// The hash value after all whole blocks of m, from the hash value s. Rules out a last whole block left out, and a block hashed from s anew.
+// The hash value after all whole blocks of m, from the hash value s.
+// Rules out a last whole block left out, and the first block hashed in the place of each.
 pub fn absorb(s: [u32; 8], k: &[u32; 64], m: &[u8]) -> [u32; 8]
     requires { ⌜ now k ≡ RoundConstants ⌝ }
     ensures { λ r. ⌜ r ≡ hashValue sha-256 s (now (m .entry)) (length (now (m .entry)) / 64) ⌝ }
