@@ -1,7 +1,7 @@
 -- `no_entry` meets its contract.
 use mathlib.Core.Path.{refl}
-use Rattle.json.proofs.steps.no_entry.Statement.{statement}
-use Rattle.json.proofs.steps.no_entry.Tie as tie
+use Rattle.json_members.proofs.steps.no_entry.Statement.{statement}
+use Rattle.json_members.proofs.steps.no_entry.Tie as tie
 
 returns : tie.Need-returns
 returns c = refl
