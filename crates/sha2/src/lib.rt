@@ -5,7 +5,7 @@ mod padding;
 
 use digest::digest;
 use padding::last_blocks;
-use sha2_compression::compress::compress;
+use sha2_compression::compress;
 pub use sha2_compression::constants;
 ghost use mathlib.Core.Path.{_≡_};
 ghost use Prim.Native.Nat.{_/_, _%_, _^_, _<_};

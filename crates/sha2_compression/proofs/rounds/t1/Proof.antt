@@ -1,7 +1,7 @@
--- `sha2_compression::compress::t1` meets its contract.
+-- `sha2_compression::rounds::t1` meets its contract.
 use borrow.Author.Needs.{needs}
-use Rattle.sha2_compression.proofs.compress.t1.Statement.{statement}
-use Rattle.sha2_compression.proofs.compress.t1.Tie as tie
+use Rattle.sha2_compression.proofs.rounds.t1.Statement.{statement}
+use Rattle.sha2_compression.proofs.rounds.t1.Tie as tie
 
 array-read-wrapping-add-u32 : tie.Need-array-read-wrapping-add-u32
 array-read-wrapping-add-u32 c = search needs

@@ -1,4 +1,4 @@
--- `sha2_compression::compress::all_rounds` meets its contract.
+-- `sha2_compression::rounds::all_rounds` meets its contract.
 use mathlib.Core.Path.{_≡_, refl}
 use mathlib.Core.List.{List}
 use Prim.Native.Nat.{ℕ, _+_, _-_, _%_, _≤_}
@@ -9,8 +9,8 @@ use Rattle.sha2_compression.specs.Parameters.{sha-256}
 use Rattle.sha2_compression.specs.Compression.{schedule, rounds}
 use Rattle.sha2_compression.proofs.ScheduleLaws.{one-later}
 use Rattle.sha2_compression.proofs.RoundLaws.{two-more}
-use Rattle.sha2_compression.proofs.compress.all_rounds.Statement.{statement}
-use Rattle.sha2_compression.proofs.compress.all_rounds.Tie as tie
+use Rattle.sha2_compression.proofs.rounds.all_rounds.Statement.{statement}
+use Rattle.sha2_compression.proofs.rounds.all_rounds.Tie as tie
 
 abbrev Inv-loop : tie.InvT-loop
 Inv-loop k b w₀ v₀ t₀ w v t = (t ≤ 48) × (t % 2 ≡ 0) × (length w ≡ 64) × (take (t + 16) w ≡ schedule sha-256 b (t + 16)) × (v ≡ rounds sha-256 v₀ (schedule sha-256 b 64) t)

@@ -1,8 +1,8 @@
--- `sha2_compression::compress::compress` meets its contract.
+-- `sha2_compression::rounds::compress` meets its contract.
 use borrow.Author.Needs.{needs}
 use Rattle.sha2_compression.specs.Compression.{compressed}
-use Rattle.sha2_compression.proofs.compress.compress.Statement.{statement}
-use Rattle.sha2_compression.proofs.compress.compress.Tie as tie
+use Rattle.sha2_compression.proofs.rounds.compress.Statement.{statement}
+use Rattle.sha2_compression.proofs.rounds.compress.Tie as tie
 
 all-rounds-requires : tie.Need-all-rounds-requires
 all-rounds-requires c κs = search needs

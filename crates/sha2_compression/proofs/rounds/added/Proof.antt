@@ -1,4 +1,4 @@
--- `sha2_compression::compress::added` meets its contract.
+-- `sha2_compression::rounds::added` meets its contract.
 use mathlib.Core.Path.{_≡_, refl, sym, _∙_}
 use Prim.Native.Nat.{_-_, _≤_}
 use native.Mathlib.Omega.{arith}
@@ -8,8 +8,8 @@ use lib.Seq.{take-all}
 use Rattle.sha2_compression.specs.Parameters.{sha-256}
 use Rattle.sha2_compression.specs.Compression.{sums}
 use Rattle.sha2_compression.proofs.RoundLaws.{one-sum}
-use Rattle.sha2_compression.proofs.compress.added.Statement.{statement}
-use Rattle.sha2_compression.proofs.compress.added.Tie as tie
+use Rattle.sha2_compression.proofs.rounds.added.Statement.{statement}
+use Rattle.sha2_compression.proofs.rounds.added.Tie as tie
 
 abbrev Inv-loop : tie.InvT-loop
 Inv-loop v h r₀ i₀ r i = (i ≤ 8) × (length r ≡ 8) × (take i r ≡ sums sha-256 v h i)

@@ -1,8 +1,8 @@
--- `sha2_compression::compress::constants` meets its contract.
+-- `sha2_compression::rounds::constants` meets its contract.
 use mathlib.Core.Path.{refl}
 use Rattle.sha2_compression.specs.Parameters.{K}
-use Rattle.sha2_compression.proofs.compress.constants.Statement.{statement}
-use Rattle.sha2_compression.proofs.compress.constants.Tie as tie
+use Rattle.sha2_compression.proofs.rounds.constants.Statement.{statement}
+use Rattle.sha2_compression.proofs.rounds.constants.Tie as tie
 
 returns : tie.Need-returns
 unfolding K

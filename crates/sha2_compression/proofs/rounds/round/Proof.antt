@@ -1,8 +1,8 @@
--- `sha2_compression::compress::round` meets its contract.
+-- `sha2_compression::rounds::round` meets its contract.
 use borrow.Author.Needs.{needs}
 use Rattle.sha2_compression.specs.Compression.{round}
-use Rattle.sha2_compression.proofs.compress.round.Statement.{statement}
-use Rattle.sha2_compression.proofs.compress.round.Tie as tie
+use Rattle.sha2_compression.proofs.rounds.round.Statement.{statement}
+use Rattle.sha2_compression.proofs.rounds.round.Tie as tie
 
 t1-requires : tie.Need-t1-requires
 t1-requires c κs = search needs

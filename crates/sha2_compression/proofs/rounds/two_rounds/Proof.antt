@@ -1,7 +1,7 @@
--- `sha2_compression::compress::two_rounds` meets its contract.
+-- `sha2_compression::rounds::two_rounds` meets its contract.
 use borrow.Author.Needs.{needs}
-use Rattle.sha2_compression.proofs.compress.two_rounds.Statement.{statement}
-use Rattle.sha2_compression.proofs.compress.two_rounds.Tie as tie
+use Rattle.sha2_compression.proofs.rounds.two_rounds.Statement.{statement}
+use Rattle.sha2_compression.proofs.rounds.two_rounds.Tie as tie
 
 mul-round : tie.Need-mul-round
 mul-round c = search needs
