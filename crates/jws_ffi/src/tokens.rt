@@ -30,7 +30,7 @@ fn words_of(about: Record) -> [u64; 9]
 }
 
 // Verifies a token: 0, its record and its two parts, or the refusal's number with all that is lent for writing zeroed.
-// Rules out the key's index and the format exchanged, and words that a refusal leaves as they were.
+// Rules out the key's index and the payload's length exchanged, and words that a refusal leaves as they were.
 #[no_mangle]
 pub extern "C" fn jws_verify(
     token: &[u8],

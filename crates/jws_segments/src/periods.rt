@@ -24,7 +24,7 @@ fn before_period(s: &[u8]) -> usize
     i
 }
 
-// One pass over the token. Rules out a third period let through, and the last period taken for the second.
+// One pass over the token. Rules out a third period let through, and the second one placed a byte early.
 pub fn split(token: &[u8]) -> Cut
     ensures { λ r. ⌜ r ≡ splitOf (now (token .entry)) ⌝ }
 {

@@ -37,7 +37,7 @@ pub extern "C" fn leaf_decode(text: &[u8], out: &mut [u8], answer: &mut [u64; 2]
 }
 
 // Encodes bytes. The answer: 0 and how many characters were written, 2 and 0 for a buffer that is too short.
-// Rules out the two words in each other's place.
+// Rules out the two words in each other's place, and a buffer that is too short answered as no characters written.
 #[no_mangle]
 pub extern "C" fn leaf_encode(bytes: &[u8], out: &mut [u8], answer: &mut [u64; 2])
     ensures { λ _. ⌜ call (now (answer .exit)) (now (out .exit)) ≡ encodeCall (encoding (now (bytes .entry)) (now (out .entry))) ⌝ }
@@ -54,7 +54,7 @@ pub extern "C" fn leaf_sha256(message: &[u8], digest: &mut [u8; 32])
     *digest = sha2::sha256(message);
 }
 
-// Rules out the key and the message in each other's place.
+// Rules out the key and the message in each other's place, and the key for the message.
 #[no_mangle]
 pub extern "C" fn leaf_hmac(key: &[u8], message: &[u8], mac: &mut [u8; 32])
     ensures { λ _. ⌜ now (mac .exit) ≡ HMACSHA256 (now (key .entry)) (now (message .entry)) ⌝ }
