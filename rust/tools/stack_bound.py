@@ -1,0 +1,61 @@
+#!/usr/bin/env python3
+"""Bounds the stack of the exported functions by the archive's object code.
+
+    rt staticlib jws_ffi
+    python3 rust/tools/stack_bound.py target/staticlib/libjws_ffi.a
+
+A function's frame is its return address, what it pushes and what it takes off the stack pointer; a call path takes the sum of its
+frames. The readers of values, arrays and objects call one another: each round takes a level of the depth, of which there are eight,
+and a round more may begin before the limit refuses it. memset and memcpy are the caller's and are not counted.
+"""
+import re
+import subprocess
+import sys
+
+ROUNDS = 8 + 1
+
+
+def read(archive):
+    """The frame of every function, and the functions that each one calls."""
+    frames, calls, current = {}, {}, None
+    text = subprocess.run(["objdump", "-dr", "--no-show-raw-insn", archive], check=True, capture_output=True, text=True).stdout
+    for line in text.splitlines():
+        if found := re.match(r"[0-9a-f]+ <([^>]+)>:", line):
+            current = found[1]
+            frames[current], calls[current] = 8, set()
+        elif found := re.search(r"\tsub +\$0x([0-9a-f]+),%rsp", line):
+            frames[current] += int(found[1], 16)
+        elif re.search(r"\tpush ", line):
+            frames[current] += 8
+        elif found := re.search(r"\t(?:call|jmp) +[0-9a-f]+ <([^>+]+)>", line):
+            calls[current].add(found[1])
+        elif found := re.search(r"R_X86_64_PL\w*\s+(?:\.text\.)?(\S+?)(?:[-+]0x[0-9a-f]+)?$", line):
+            calls[current].add(found[1])
+    return frames, {name: {callee for callee in callees if callee in frames} for name, callees in calls.items()}
+
+
+def reached(calls, start):
+    seen, left = set(), [start]
+    while left:
+        for callee in calls[left.pop()] - seen:
+            seen.add(callee)
+            left.append(callee)
+    return seen
+
+
+def bound(frames, calls, name):
+    """The deepest path from a function on. A cycle that is entered counts once, by all its frames, for each round."""
+    cycle = {other for other in reached(calls, name) if name in reached(calls, other)}
+    here = ROUNDS * sum(frames[member] for member in cycle) if cycle else frames[name]
+    inside = cycle or {name}
+    below = [bound(frames, calls, callee) for member in inside for callee in calls[member] - inside]
+    return here + max(below, default=0)
+
+
+def main():
+    frames, calls = read(sys.argv[1])
+    for name in sorted(name for name in frames if "::" not in name):
+        print(name, bound(frames, calls, name), "bytes")
+
+
+main()
