@@ -24,6 +24,12 @@ rest-drop m = take-all (length m - length m / 64 * 64) (drop (length m / 64 * 64
 pub length-rest : (m : List ℕ) → length (rest m) ≡ length m % 64
 length-rest m = ap length (rest-drop m) ∙ length-drop (length m / 64 * 64) m ∙ omega arith
 
+-- .. as the padding has it, where n bytes of whole blocks stand before m
+pub ends-there : (m : List ℕ) (n : ℕ) → n % 64 ≡ 0 → (length (rest m) ≡ (n + length m) % 64) × (end m ≡ length (rest m ++ padding sha-256 (n + length m)))
+ends-there m n h =
+    let l : length (rest m) ≡ (n + length m) % 64 = omega (arith, length-rest m) in
+    (l, omega (arith, ends (rest m) (n + length m) l, length-rest m))
+
 -- n bytes stand before m, and the last blocks stand at the front of d
 pub finished : (s m v f d : List ℕ) (n : ℕ) → n % 64 ≡ 0 → take (end m) d ≡ rest m ++ padding sha-256 (n + length m)
     → v ≡ hashValue sha-256 s m (length m / 64)

@@ -1,12 +1,9 @@
 -- `sha2::hash_after` meets its contract.
-use mathlib.Core.Path.{_≡_, sym, _∙_}
-use Prim.Native.Nat.{_+_, _%_}
+use mathlib.Core.Path.{sym, _∙_}
 use native.Mathlib.Omega.{arith}
 use borrow.Author.Needs.{needs}
-use lib.ListN.{length}
 use lib.Seq.{length-take-le}
-use Rattle.sha2.proofs.PaddedLaws.{ends}
-use Rattle.sha2.proofs.FinishLaws.{rest, length-rest, finished}
+use Rattle.sha2.proofs.FinishLaws.{ends-there, finished}
 use Rattle.sha2.proofs.hash_after.Statement.{statement}
 use Rattle.sha2.proofs.hash_after.Tie as tie
 
@@ -38,11 +35,7 @@ add-last-blocks : tie.Need-add-last-blocks
 add-last-blocks c = search needs
 
 last-blocks-requires : tie.Need-last-blocks-requires
-last-blocks-requires c κs =
-    let a = c .before .before .before .args in
-    let m = a .m .now in
-    let l : length (rest m) ≡ (a .before + length m) % 64 = omega (arith, length-rest m) in
-    (l, omega (arith, ends (rest m) (a .before + length m) l, length-rest m))
+last-blocks-requires c κs = let s = c .before .before .before in ends-there (s .args .m .now) (s .args .before) (s .pre .1)
 
 array-share-prefix-d : tie.Need-array-share-prefix-d
 array-share-prefix-d c = search needs
