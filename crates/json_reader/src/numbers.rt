@@ -1,5 +1,6 @@
 // Numbers (RFC 8259 section 6): number = [ minus ] int [ frac ] [ exp ].
 use json_string::End;
+use json_string::between;
 ghost use mathlib.Core.Path.{_≡_};
 ghost use Prim.Native.Nat.{_≤_, _<_};
 ghost use lib.ListN.{length};
@@ -10,13 +11,13 @@ ghost use Rattle.json_reader.specs.Contracts.{MovesTo, DigitsEnd, IntEnd
 fn is_digit(b: u8) -> bool
     ensures { λ r. ⌜ r ≡ isDigit b ⌝ }
 {
-    0x30 <= b && b <= 0x39
+    between(0x30, 0x39, b)
 }
 
 fn is_digit19(b: u8) -> bool
     ensures { λ r. ⌜ r ≡ isDigit19 b ⌝ }
 {
-    0x31 <= b && b <= 0x39
+    between(0x31, 0x39, b)
 }
 
 fn is_e(b: u8) -> bool

@@ -6,8 +6,8 @@ ghost use Rattle.json_grammar.specs.Bytes.{within, isHex, hexVal, isHigh, isLow
 ghost use Rattle.json_grammar.specs.Reader.{isUnescaped1};
 use common::wide;
 
-// Whether b lies from lo to hi.
-pub(crate) fn between(lo: u8, hi: u8, b: u8) -> bool
+// Whether b lies from lo to hi. Rules out lo left out, and hi left out.
+pub fn between(lo: u8, hi: u8, b: u8) -> bool
     ensures { λ r. ⌜ r ≡ within lo hi b ⌝ }
 {
     if b < lo {

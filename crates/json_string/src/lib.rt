@@ -6,6 +6,7 @@ mod strings; // strings.rt: the character at a place, the end of a string
 mod compare; // compare.rt: strings compared after escapes are resolved
 mod resolving; // resolving.rt: a string's value as UTF-8
 
+pub use classes::between;
 pub use compare::fingerprint;
 pub use compare::same_by_fingerprint;
 pub use compare::same_text;
