@@ -17,15 +17,6 @@ use Rattle.base64url.proofs.decode_with.Tie as tie
 kept : (c : tie.After-refuse) → length (c .before .before .before .before .before .if1 .out) ≡ length (c .before .before .before .before .before .before .before .before .before .args .out .now)
 kept c = ⊎-elim (λ w. ap length (w .6) ∙ w .2 .kept .1 .1 .0) (λ w. ap length (w .1)) (c .before .before .before .before .before .if1 .came)
 
-decoded-len-requires : tie.Need-decoded-len-requires
-decoded-len-requires c κs = search needs
-
-decode-into-requires : tie.Need-decode-into-requires
-decode-into-requires c κs = search needs
-
-same-length : tie.Need-same-length
-same-length c = search needs
-
 returns : tie.Need-returns
 returns c =
     let s = c .before .before .before .before .before .before .before .before .before .args .text .now in
@@ -33,12 +24,6 @@ returns c =
     let i = c .before .before .before .decode-into .ensures in
     let n : c .before .before .before .before .before .before .decoded-len .result ≡ length (decode s) = c .before .before .before .before .before .before .decoded-len .ensures ∙ sym (length-decode s) in
     rw (n, i .bytes (c .if2 .taken)) (accepted s out (sym (i .answer) ∙ c .if2 .taken) (omega arith))
-
-zero-requires : tie.Need-zero-requires
-zero-requires c κs = search needs
-
-refuse-requires : tie.Need-refuse-requires
-refuse-requires c κs = search needs
 
 same-length-2 : tie.Need-same-length-2
 same-length-2 c = c .before .before .before .zero .kept .0 ∙ kept c
@@ -55,11 +40,8 @@ pub decode-with-spec : {M : Type 1} → statement M
 decode-with-spec =
     tie.close
     (tie.spec
-    decoded-len-requires
-    decode-into-requires
-    same-length
+    (λ c κs. search needs) (λ c κs. search needs) (λ c. search needs)
     returns
-    zero-requires
-    refuse-requires
+    (λ c κs. search needs) (λ c κs. search needs)
     same-length-2
     returns-2)

@@ -2,9 +2,6 @@
 use Rattle.base64url.proofs.encode.Statement.{statement}
 use Rattle.base64url.proofs.encode.Tie as tie
 
-alphabet-requires : tie.Need-alphabet-requires
-alphabet-requires c κs = tt
-
 encode-with-requires : tie.Need-encode-with-requires
 encode-with-requires c κs = c .before .before .alphabet .ensures
 
@@ -15,4 +12,4 @@ returns : tie.Need-returns
 returns c = c .before .before .encode-with .ensures
 
 pub encode-spec : {M : Type 1} → statement M
-encode-spec = tie.close (tie.spec alphabet-requires encode-with-requires same-length returns)
+encode-spec = tie.close (tie.spec (λ c κs. tt) encode-with-requires same-length returns)

@@ -9,27 +9,12 @@ use Rattle.base64url_rules.specs.OutcomeLaws.{roomy, tight}
 use Rattle.base64url.proofs.encode_with.Statement.{statement}
 use Rattle.base64url.proofs.encode_with.Tie as tie
 
-encoded-len-requires : tie.Need-encoded-len-requires
-encoded-len-requires c κs = search needs
-
-encode-into-requires : tie.Need-encode-into-requires
-encode-into-requires c κs = search needs
-
-same-length : tie.Need-same-length
-same-length c = search needs
-
 returns : tie.Need-returns
 returns c =
     let s = c .before .before .before .before .before .before .before .before .args .bytes .now in
     let out = c .before .before .before .before .before .before .before .before .args .out .now in
     let n : c .before .before .before .before .before .encoded-len .result ≡ length (encode s) = c .before .before .before .before .before .encoded-len .ensures ∙ sym (length-encode s) in
     rw (n, c .before .before .encode-into .ensures) (roomy s out (omega arith))
-
-zero-requires : tie.Need-zero-requires
-zero-requires c κs = search needs
-
-same-length-2 : tie.Need-same-length-2
-same-length-2 c = search needs
 
 returns-2 : tie.Need-returns-2
 returns-2 c =
@@ -42,10 +27,7 @@ pub encode-with-spec : {M : Type 1} → statement M
 encode-with-spec =
     tie.close
     (tie.spec
-    encoded-len-requires
-    encode-into-requires
-    same-length
+    (λ c κs. search needs) (λ c κs. search needs) (λ c. search needs)
     returns
-    zero-requires
-    same-length-2
+    (λ c κs. search needs) (λ c. search needs)
     returns-2)

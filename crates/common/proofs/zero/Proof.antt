@@ -19,15 +19,6 @@ abbrev μ-loop : tie.MeasureT-loop
 loop-holds : tie.Need-loop-holds Inv-loop μ-loop
 loop-holds c = (omega arith, refl, refl)
 
-slice-write-b : tie.Need-slice-write-b Inv-loop μ-loop
-slice-write-b c = omega arith
-
-add-at : tie.Need-add-at Inv-loop μ-loop
-add-at c = omega arith
-
-loop-less : tie.Need-loop-less Inv-loop μ-loop
-loop-less c = omega arith
-
 loop-again : tie.Need-loop-again Inv-loop μ-loop
 loop-again c =
     let l = c .before .loop in (
@@ -49,4 +40,4 @@ returns c =
     sym (take-all (l .at) (l .b) (omega arith)) ∙ l .inv .2 ∙ ap (λ (n : ℕ). replicate n 0) (e ∙ l .inv .1)
 
 pub zero-spec : {M : Type 1} → statement M
-zero-spec = tie.close (tie.spec Inv-loop μ-loop loop-holds slice-write-b add-at loop-less loop-again same-length returns)
+zero-spec = tie.close (tie.spec Inv-loop μ-loop loop-holds (λ c. omega arith) (λ c. omega arith) (λ c. omega arith) loop-again same-length returns)

@@ -7,12 +7,6 @@ use Rattle.decimal.proofs.Laws.{negated, negated-fits}
 use Rattle.decimal.proofs.negated.Statement.{statement}
 use Rattle.decimal.proofs.negated.Tie as tie
 
-sub-result : tie.Need-sub-result
-sub-result c = search needs
-
-cast-result : tie.Need-cast-result
-cast-result c = search needs
-
 sub-result-2 : tie.Need-sub-result-2
 sub-result-2 c = rw (negated _ (c .if1 .left) (c .before .pre)) (negated-fits _ (c .if1 .left) (c .before .pre))
 
@@ -24,4 +18,4 @@ returns-2 c =
     rw (negated _ (c .if1 .left) (c .before .pre), toZ-ofZ _ _ (negated-fits _ (c .if1 .left) (c .before .pre)))
 
 pub negated-spec : {M : Type 1} → statement M
-negated-spec = tie.close (tie.spec sub-result cast-result sub-result-2 returns returns-2)
+negated-spec = tie.close (tie.spec (λ c. search needs) (λ c. search needs) sub-result-2 returns returns-2)

@@ -22,43 +22,13 @@ plain c = let i = c .before in without _ (i .before .before .if1 .left) (i .if2 
 returns : tie.Need-returns
 returns c = sym (nothing _ (c .if1 .taken))
 
-shared-slice-read-if2 : tie.Need-shared-slice-read-if2
-shared-slice-read-if2 c = search needs
-
-sub-rest : tie.Need-sub-rest
-sub-rest c = search needs
-
-part-rest-start : tie.Need-part-rest-start
-part-rest-start c = search needs
-
-part-rest-end : tie.Need-part-rest-end
-part-rest-end c = search needs
-
-unsigned-requires : tie.Need-unsigned-requires
-unsigned-requires c κs = search needs
-
-enum-known-m : tie.Need-enum-known-m
-enum-known-m c = search needs
-
 negated-requires : tie.Need-negated-requires
 negated-requires c κs = at-most _ _ _ (sym (c .before .before .before .unsigned .ensures) ∙ c .before .m .given .1)
-
-enum-told : tie.Need-enum-told
-enum-told c = search needs
-
-unsigned-requires-2 : tie.Need-unsigned-requires-2
-unsigned-requires-2 c κs = search needs
-
-enum-known-m-2 : tie.Need-enum-known-m-2
-enum-known-m-2 c = search needs
 
 cast-t18 : tie.Need-cast-t18
 cast-t18 c =
     let h = at-most _ _ _ (sym (c .before .before .before .unsigned2 .ensures) ∙ c .before .m2 .given .1) in
     record { sfits = omega arith }
-
-enum-told-2 : tie.Need-enum-told-2
-enum-told-2 c = search needs
 
 returns-2 : tie.Need-returns-2
 returns-2 c =
@@ -79,18 +49,12 @@ parse-spec =
     tie.close
     (tie.spec
     returns
-    shared-slice-read-if2
-    sub-rest
-    part-rest-start
-    part-rest-end
-    unsigned-requires
-    enum-known-m
+    (λ c. search needs) (λ c. search needs) (λ c. search needs) (λ c. search needs) (λ c κs. search needs)
+    (λ c. search needs)
     negated-requires
-    enum-told
-    unsigned-requires-2
-    enum-known-m-2
+    (λ c. search needs) (λ c κs. search needs) (λ c. search needs)
     cast-t18
-    enum-told-2
+    (λ c. search needs)
     returns-2
     returns-3
     returns-4

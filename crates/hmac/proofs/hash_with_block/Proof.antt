@@ -10,18 +10,6 @@ use Rattle.sha2.specs.BlockLaws.{after-blocks}
 use Rattle.hmac.proofs.hash_with_block.Statement.{statement}
 use Rattle.hmac.proofs.hash_with_block.Tie as tie
 
-initial-requires : tie.Need-initial-requires
-initial-requires c κs = search needs
-
-slice-aggregate-absorb : tie.Need-slice-aggregate-absorb
-slice-aggregate-absorb c = search needs
-
-absorb-requires : tie.Need-absorb-requires
-absorb-requires c κs = search needs
-
-hash-after-requires : tie.Need-hash-after-requires
-hash-after-requires c κs = search needs
-
 returns : tie.Need-returns
 returns c =
     let a = c .before .before .before .before .before .args in
@@ -32,4 +20,4 @@ returns c =
 pub hash-with-block-spec : {M : Type 1} → statement M
 hash-with-block-spec =
     tie.close
-    (tie.spec initial-requires slice-aggregate-absorb absorb-requires hash-after-requires returns)
+    (tie.spec (λ c κs. search needs) (λ c. search needs) (λ c κs. search needs) (λ c κs. search needs) returns)

@@ -6,9 +6,6 @@ use Rattle.jose.proofs.PhaseLaws.{decision-good, decision-bad}
 use Rattle.jose.proofs.decide.Statement.{statement}
 use Rattle.jose.proofs.decide.Tie as tie
 
-good-requires : tie.Need-good-requires
-good-requires c κs = search needs
-
 decide-with-requires : tie.Need-decide-with-requires
 decide-with-requires c κs = not-true _ (sym (c .before .good2 .ensures) ∙ c .if1 .taken)
 
@@ -19,4 +16,4 @@ returns-2 : tie.Need-returns-2
 returns-2 c = decision-bad _ _ (not-false _ (sym (c .before .good2 .ensures) ∙ c .if1 .left))
 
 pub decide-spec : {M : Type 1} → statement M
-decide-spec = tie.close (tie.spec good-requires decide-with-requires returns returns-2)
+decide-spec = tie.close (tie.spec (λ c κs. search needs) decide-with-requires returns returns-2)

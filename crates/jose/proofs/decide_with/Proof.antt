@@ -22,9 +22,6 @@ fine c = sym (c .before .check .ensures) ∙ c .if1 .left
 number : (c : tie.After-known-told) → some (c .before .number .given .0 .0) ≡ format (reading (now (c .before .before .before .before .before .before .before .before .before .args .header)))
 number c = sym (ap valueOf (c .before .number .given .1)) ∙ c .before .before .before .format-of .ensures
 
-check-requires : tie.Need-check-requires
-check-requires c κs = search needs
-
 returns : tie.Need-returns
 returns c = decision-header _ _ (c .before .check .ensures) (c .if1 .taken)
 
@@ -33,12 +30,6 @@ known-members-requires c κs = fine c
 
 format-of-requires : tie.Need-format-of-requires
 format-of-requires c κs = c .known-members .ensures .stands theFmt
-
-enum-known-number : tie.Need-enum-known-number
-enum-known-number c = search needs
-
-enum-told : tie.Need-enum-told
-enum-told c = search needs
 
 returns-2 : tie.Need-returns-2
 returns-2 c = decision-format _ _ (fine (c .before .before .before .before)) (sym (ap valueOf (c .enum-told .given .1)) ∙ c .before .before .format-of .ensures)
@@ -71,12 +62,11 @@ pub decide-with-spec : {M : Type 1} → statement M
 decide-with-spec =
     tie.close
     (tie.spec
-    check-requires
+    (λ c κs. search needs)
     returns
     known-members-requires
     format-of-requires
-    enum-known-number
-    enum-told
+    (λ c. search needs) (λ c. search needs)
     returns-2
     members-refused-requires
     returns-3

@@ -18,9 +18,6 @@ fine c = sym (c .before .missing-or-wrong .ensures) ∙ c .if1 .left
 listed : (c : tie.Else2) → criticalBroken (reading (now (c .before .before .before .before .before .args .header))) ≡ false
 listed c = sym (c .before .critical-broken .ensures) ∙ c .if2 .left
 
-missing-or-wrong-requires : tie.Need-missing-or-wrong-requires
-missing-or-wrong-requires c κs = search needs
-
 returns : tie.Need-returns
 returns c = members-9 _ (sym (c .before .missing-or-wrong .ensures) ∙ c .if1 .taken)
 
@@ -47,7 +44,7 @@ pub members-refused-spec : {M : Type 1} → statement M
 members-refused-spec =
     tie.close
     (tie.spec
-    missing-or-wrong-requires
+    (λ c κs. search needs)
     returns
     critical-broken-requires
     returns-2

@@ -9,30 +9,12 @@ use Rattle.jws_rules.specs.Outcomes.{payload}
 use Rattle.jws.proofs.payload.Statement.{statement}
 use Rattle.jws.proofs.payload.Tie as tie
 
-sub-result : tie.Need-sub-result
-sub-result c = search needs
-
-part-result-start : tie.Need-part-result-start
-part-result-start c = search needs
-
-part-result-end : tie.Need-part-result-end
-part-result-end c = search needs
-
 returns : tie.Need-returns
 unfolding payload
 returns c =
     let a = c .before .before .args in
     let n : a .about .payload - 0 ≡ a .about .payload = omega arith in
     rw (n, le-leb (a .about .payload) (length (a .buffer .now)) (omega arith))
-
-sub-result-2 : tie.Need-sub-result-2
-sub-result-2 c = search needs
-
-part-result-start-2 : tie.Need-part-result-start-2
-part-result-start-2 c = search needs
-
-part-result-end-2 : tie.Need-part-result-end-2
-part-result-end-2 c = search needs
 
 returns-2 : tie.Need-returns-2
 unfolding payload
@@ -42,11 +24,7 @@ pub payload-spec : {M : Type 1} → statement M
 payload-spec =
     tie.close
     (tie.spec
-    sub-result
-    part-result-start
-    part-result-end
+    (λ c. search needs) (λ c. search needs) (λ c. search needs)
     returns
-    sub-result-2
-    part-result-start-2
-    part-result-end-2
+    (λ c. search needs) (λ c. search needs) (λ c. search needs)
     returns-2)

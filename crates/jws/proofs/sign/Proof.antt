@@ -6,24 +6,6 @@ use Rattle.jws.proofs.WrittenLaws.{settled}
 use Rattle.jws.proofs.sign.Statement.{statement}
 use Rattle.jws.proofs.sign.Tie as tie
 
-make-requires : tie.Need-make-requires
-make-requires c κs = search needs
-
-sub-zero : tie.Need-sub-zero
-sub-zero c = search needs
-
-part-zero-start : tie.Need-part-zero-start
-part-zero-start c = search needs
-
-part-zero-end : tie.Need-part-zero-end
-part-zero-end c = search needs
-
-zero-requires : tie.Need-zero-requires
-zero-requires c κs = search needs
-
-same-length : tie.Need-same-length
-same-length c = search needs
-
 returns : tie.Need-returns
 returns c =
     let m = c .before .before .before .before .before .before in
@@ -34,10 +16,6 @@ pub sign-spec : {M : Type 1} → statement M
 sign-spec =
     tie.close
     (tie.spec
-    make-requires
-    sub-zero
-    part-zero-start
-    part-zero-end
-    zero-requires
-    same-length
+    (λ c κs. search needs) (λ c. search needs) (λ c. search needs) (λ c. search needs) (λ c κs. search needs)
+    (λ c. search needs)
     returns)

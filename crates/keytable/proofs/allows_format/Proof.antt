@@ -19,12 +19,6 @@ add-result-2 c = omega (arith, entry _ (c .pre .0) _ (c .pre .1) .within)
 shared-slice-read-result : tie.Need-shared-slice-read-result
 shared-slice-read-result c = omega (arith, entry _ (c .before .pre .0) _ (c .before .pre .1) .within)
 
-sub-result : tie.Need-sub-result
-sub-result c = search needs
-
-shr-result : tie.Need-shr-result
-shr-result c = search needs
-
 returns : tie.Need-returns
 unfolding allowsFormat
 returns c =
@@ -39,6 +33,5 @@ allows-format-spec =
     add-result
     add-result-2
     shared-slice-read-result
-    sub-result
-    shr-result
+    (λ c. search needs) (λ c. search needs)
     returns)

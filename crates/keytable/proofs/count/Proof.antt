@@ -9,11 +9,8 @@ use Rattle.keytable.proofs.count.Tie as tie
 number2-at-requires : tie.Need-number2-at-requires
 number2-at-requires c κs = omega (arith, wellformed _ (c .before .pre) .long)
 
-cast-result : tie.Need-cast-result
-cast-result c = search needs
-
 returns : tie.Need-returns
 returns c = c .number2-at .ensures .0 ∙ sym (length-keys _)
 
 pub count-spec : {M : Type 1} → statement M
-count-spec = tie.close (tie.spec number2-at-requires cast-result returns)
+count-spec = tie.close (tie.spec number2-at-requires (λ c. search needs) returns)

@@ -26,19 +26,10 @@ loop-holds c = (omega arith, below-none _, c .count .ensures)
 id-requires : tie.Need-id-requires Inv-loop μ-loop
 id-requires c κs = (c .before .before .before .before .before .pre, omega arith)
 
-same-requires : tie.Need-same-requires Inv-loop μ-loop
-same-requires c κs = tt
-
 returns : tie.Need-returns Inv-loop μ-loop
 returns c =
     let l = c .before .before .before .before in
     finds-one (first (record { within = omega arith; is = sym (c .before .before .id .ensures) ∙ when-true (c .before .same .ensures) (c .if1 .taken) }) (l .loop .inv .1)) (finds _ _)
-
-add-i : tie.Need-add-i Inv-loop μ-loop
-add-i c = omega arith
-
-loop-less : tie.Need-loop-less Inv-loop μ-loop
-loop-less c = omega arith
 
 loop-again : tie.Need-loop-again Inv-loop μ-loop
 loop-again c =
@@ -57,9 +48,8 @@ find-spec =
     count-requires
     loop-holds
     id-requires
-    same-requires
+    (λ c κs. tt)
     returns
-    add-i
-    loop-less
+    (λ c. omega arith) (λ c. omega arith)
     loop-again
     returns-2)

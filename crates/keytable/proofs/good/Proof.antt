@@ -14,41 +14,17 @@ returns c = decided (fails (λ w. omega (arith, w .long))) (decides-good _)
 returns-2 : tie.Need-returns-2
 returns-2 c = decided (fails (λ w. omega (arith, w .short))) (decides-good _)
 
-number2-at-requires : tie.Need-number2-at-requires
-number2-at-requires c κs = search needs
-
 returns-3 : tie.Need-returns-3
 returns-3 c = decided (fails (λ w. c .if3 .taken (c .before .number2-at .ensures .0 ∙ w .edition))) (decides-good _)
-
-number2-at-requires-2 : tie.Need-number2-at-requires-2
-number2-at-requires-2 c κs = search needs
-
-cast-n : tie.Need-cast-n
-cast-n c = search needs
 
 returns-4 : tie.Need-returns-4
 returns-4 c = decided (fails (λ w. omega (arith, w .count))) (decides-good _)
 
-number4-at-requires : tie.Need-number4-at-requires
-number4-at-requires c κs = search needs
-
-cast-total : tie.Need-cast-total
-cast-total c = search needs
-
 returns-5 : tie.Need-returns-5
 returns-5 c = decided (fails (λ w. omega (arith, w .total))) (decides-good _)
 
-mul-if6 : tie.Need-mul-if6
-mul-if6 c = search needs
-
-add-if6 : tie.Need-add-if6
-add-if6 c = search needs
-
 returns-6 : tie.Need-returns-6
 returns-6 c = decided (fails (λ w. omega (arith, room _ (w .long) (w .entries)))) (decides-good _)
-
-good-entries-requires : tie.Need-good-entries-requires
-good-entries-requires c κs = search needs
 
 new-ids-requires : tie.Need-new-ids-requires
 new-ids-requires c κs = (omega arith, omega arith, when-true (c .before .good-entries .ensures) (c .if7 .taken))
@@ -79,18 +55,15 @@ good-spec =
     (tie.spec
     returns
     returns-2
-    number2-at-requires
+    (λ c κs. search needs)
     returns-3
-    number2-at-requires-2
-    cast-n
+    (λ c κs. search needs) (λ c. search needs)
     returns-4
-    number4-at-requires
-    cast-total
+    (λ c κs. search needs) (λ c. search needs)
     returns-5
-    mul-if6
-    add-if6
+    (λ c. search needs) (λ c. search needs)
     returns-6
-    good-entries-requires
+    (λ c κs. search needs)
     new-ids-requires
     returns-7
     returns-8)

@@ -19,26 +19,8 @@ loop-holds : tie.Need-loop-holds Inv-loop μ-loop
 unfolding hashValue
 loop-holds c = (omega arith, refl, refl)
 
-sub-loop : tie.Need-sub-loop Inv-loop μ-loop
-sub-loop c = omega arith
-
-add-e : tie.Need-add-e Inv-loop μ-loop
-add-e c = omega arith
-
-sub-compress : tie.Need-sub-compress Inv-loop μ-loop
-sub-compress c = omega arith
-
-part-compress-start : tie.Need-part-compress-start Inv-loop μ-loop
-part-compress-start c = omega arith
-
-part-compress-end : tie.Need-part-compress-end Inv-loop μ-loop
-part-compress-end c = omega arith
-
 compress-requires : tie.Need-compress-requires Inv-loop μ-loop
 compress-requires c κs = (c .before .before .before .before .pre, simp (length-take, length-drop) (omega arith))
-
-loop-less : tie.Need-loop-less Inv-loop μ-loop
-loop-less c = omega arith
 
 loop-again : tie.Need-loop-again Inv-loop μ-loop
 loop-again c =
@@ -60,12 +42,8 @@ absorb-spec =
     Inv-loop
     μ-loop
     loop-holds
-    sub-loop
-    add-e
-    sub-compress
-    part-compress-start
-    part-compress-end
+    (λ c. omega arith) (λ c. omega arith) (λ c. omega arith) (λ c. omega arith) (λ c. omega arith)
     compress-requires
-    loop-less
+    (λ c. omega arith)
     loop-again
     returns)

@@ -9,15 +9,6 @@ use Rattle.sha2.specs.BlockLaws.{after-blocks}
 use Rattle.sha2.proofs.sha256.Statement.{statement}
 use Rattle.sha2.proofs.sha256.Tie as tie
 
-constants-requires : tie.Need-constants-requires
-constants-requires c κs = search needs
-
-initial-requires : tie.Need-initial-requires
-initial-requires c κs = search needs
-
-hash-after-requires : tie.Need-hash-after-requires
-hash-after-requires c κs = search needs
-
 returns : tie.Need-returns
 unfolding hashValue
 returns c =
@@ -25,4 +16,4 @@ returns c =
     c .hash-after .ensures ∙ rw (c .before .before .initial .ensures) (after-blocks sha-256 [] m (omega arith) refl)
 
 pub sha256-spec : {M : Type 1} → statement M
-sha256-spec = tie.close (tie.spec constants-requires initial-requires hash-after-requires returns)
+sha256-spec = tie.close (tie.spec (λ c κs. search needs) (λ c κs. search needs) (λ c κs. search needs) returns)

@@ -13,32 +13,14 @@ small : (c : tie.Then1)
     → Small (c .before .before .before .before .value-of .result) (c .before .before .before .value-of2 .result) (c .before .before .value-of3 .result) (c .before .value-of4 .result)
 small c = below _ _ _ _ (c .if1 .taken)
 
-value-of-requires : tie.Need-value-of-requires
-value-of-requires c κs = search needs
-
-value-of-requires-2 : tie.Need-value-of-requires-2
-value-of-requires-2 c κs = search needs
-
-value-of-requires-3 : tie.Need-value-of-requires-3
-value-of-requires-3 c κs = search needs
-
-value-of-requires-4 : tie.Need-value-of-requires-4
-value-of-requires-4 c κs = search needs
-
 mul-t15 : tie.Need-mul-t15
 mul-t15 c = omega (arith, small c)
 
 add-t17 : tie.Need-add-t17
 add-t17 c = omega (arith, small c)
 
-mul-t19 : tie.Need-mul-t19
-mul-t19 c = search needs
-
 add-t21 : tie.Need-add-t21
 add-t21 c = omega (arith, small c)
-
-mul-t23 : tie.Need-mul-t23
-mul-t23 c = search needs
 
 add-t24 : tie.Need-add-t24
 add-t24 c = omega (arith, small c)
@@ -54,15 +36,12 @@ pub decode-group-spec : {M : Type 1} → statement M
 decode-group-spec =
     tie.close
     (tie.spec
-    value-of-requires
-    value-of-requires-2
-    value-of-requires-3
-    value-of-requires-4
+    (λ c κs. search needs) (λ c κs. search needs) (λ c κs. search needs) (λ c κs. search needs)
     mul-t15
     add-t17
-    mul-t19
+    (λ c. search needs)
     add-t21
-    mul-t23
+    (λ c. search needs)
     add-t24
     returns
     returns-2)

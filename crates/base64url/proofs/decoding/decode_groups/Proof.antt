@@ -20,33 +20,6 @@ abbrev μ-loop : tie.MeasureT-loop
 loop-holds : tie.Need-loop-holds Inv-loop μ-loop
 loop-holds c = (omega arith, refl, nothing _)
 
-mul-from : tie.Need-mul-from Inv-loop μ-loop
-mul-from c = omega arith
-
-add-s : tie.Need-add-s Inv-loop μ-loop
-add-s c = omega arith
-
-sub-s : tie.Need-sub-s Inv-loop μ-loop
-sub-s c = omega arith
-
-part-s-start : tie.Need-part-s-start Inv-loop μ-loop
-part-s-start c = omega arith
-
-part-s-end : tie.Need-part-s-end Inv-loop μ-loop
-part-s-end c = omega arith
-
-shared-slice-read-decode-group : tie.Need-shared-slice-read-decode-group Inv-loop μ-loop
-shared-slice-read-decode-group c = omega arith
-
-shared-slice-read-decode-group-2 : tie.Need-shared-slice-read-decode-group-2 Inv-loop μ-loop
-shared-slice-read-decode-group-2 c = omega arith
-
-shared-slice-read-decode-group-3 : tie.Need-shared-slice-read-decode-group-3 Inv-loop μ-loop
-shared-slice-read-decode-group-3 c = omega arith
-
-shared-slice-read-decode-group-4 : tie.Need-shared-slice-read-decode-group-4 Inv-loop μ-loop
-shared-slice-read-decode-group-4 c = omega arith
-
 decode-group-requires : tie.Need-decode-group-requires Inv-loop μ-loop
 decode-group-requires c κs = c .before .before .before .before .before .before .before .before .before .pre .0
 
@@ -58,29 +31,11 @@ returns c =
     let l = c .before .before .before .before .before .before .before .before .before .loop in
     refused _ _ (l .out) (l .i) (l .i * 4 + 4 - l .i * 4) (omega arith) (omega arith) (l .inv .2) (not-true _ (c .if1 .taken)) (c .before .before .decode-group .ensures)
 
-mul-to : tie.Need-mul-to Inv-loop μ-loop
-mul-to c = omega arith
-
-slice-write-out : tie.Need-slice-write-out Inv-loop μ-loop
-slice-write-out c = omega arith
-
-add-out : tie.Need-add-out Inv-loop μ-loop
-add-out c = omega arith
-
 slice-write-out-2 : tie.Need-slice-write-out-2 Inv-loop μ-loop
 slice-write-out-2 c = simp length-set (omega arith)
 
-add-out-2 : tie.Need-add-out-2 Inv-loop μ-loop
-add-out-2 c = omega arith
-
 slice-write-out-3 : tie.Need-slice-write-out-3 Inv-loop μ-loop
 slice-write-out-3 c = simp length-set (omega arith)
-
-add-i : tie.Need-add-i Inv-loop μ-loop
-add-i c = omega arith
-
-loop-less : tie.Need-loop-less Inv-loop μ-loop
-loop-less c = omega arith
 
 loop-again : tie.Need-loop-again Inv-loop μ-loop
 loop-again c =
@@ -106,26 +61,16 @@ decode-groups-spec =
     Inv-loop
     μ-loop
     loop-holds
-    mul-from
-    add-s
-    sub-s
-    part-s-start
-    part-s-end
-    shared-slice-read-decode-group
-    shared-slice-read-decode-group-2
-    shared-slice-read-decode-group-3
-    shared-slice-read-decode-group-4
+    (λ c. omega arith) (λ c. omega arith) (λ c. omega arith) (λ c. omega arith) (λ c. omega arith) (λ c. omega arith)
+    (λ c. omega arith) (λ c. omega arith) (λ c. omega arith)
     decode-group-requires
     same-length
     returns
-    mul-to
-    slice-write-out
-    add-out
+    (λ c. omega arith) (λ c. omega arith) (λ c. omega arith)
     slice-write-out-2
-    add-out-2
+    (λ c. omega arith)
     slice-write-out-3
-    add-i
-    loop-less
+    (λ c. omega arith) (λ c. omega arith)
     loop-again
     same-length-2
     returns-2)

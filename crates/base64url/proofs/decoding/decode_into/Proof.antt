@@ -10,9 +10,6 @@ use Rattle.base64url.proofs.DecodeLaws.{not-strict, front-refused, whol
 use Rattle.base64url.proofs.decoding.decode_into.Statement.{statement}
 use Rattle.base64url.proofs.decoding.decode_into.Tie as tie
 
-mul-decode-groups : tie.Need-mul-decode-groups
-mul-decode-groups c = search needs
-
 slice-aggregate-decode-groups : tie.Need-slice-aggregate-decode-groups
 slice-aggregate-decode-groups c = let s = c .before .before .before .args .text .now in sym (length-take-le (length s / 4 * 4) s (omega arith))
 
@@ -22,44 +19,11 @@ decode-groups-requires c κs =
     let n = length-take-le (length s / 4 * 4) s (omega arith) in
     (c .before .before .before .before .pre .0, omega (arith, n), omega (arith, n))
 
-same-length : tie.Need-same-length
-same-length c = search needs
-
 returns : tie.Need-returns
 returns c =
     let s = c .before .before .before .before .before .before .before .before .args .text .now in
     let g = c .before .before .before .decode-groups in
     not-strict (front-refused s (length s / 4 * 4) (omega arith) (omega arith) (sym (g .ensures .answer) ∙ not-true _ (c .if1 .taken)))
-
-mul-decode-rest : tie.Need-mul-decode-rest
-mul-decode-rest c = search needs
-
-sub-decode-rest : tie.Need-sub-decode-rest
-sub-decode-rest c = search needs
-
-part-decode-rest-start : tie.Need-part-decode-rest-start
-part-decode-rest-start c = search needs
-
-part-decode-rest-end : tie.Need-part-decode-rest-end
-part-decode-rest-end c = search needs
-
-mul-decode-rest-2 : tie.Need-mul-decode-rest-2
-mul-decode-rest-2 c = search needs
-
-sub-decode-rest-2 : tie.Need-sub-decode-rest-2
-sub-decode-rest-2 c = search needs
-
-part-decode-rest-start-2 : tie.Need-part-decode-rest-start-2
-part-decode-rest-start-2 c = search needs
-
-part-decode-rest-end-2 : tie.Need-part-decode-rest-end-2
-part-decode-rest-end-2 c = search needs
-
-decode-rest-requires : tie.Need-decode-rest-requires
-decode-rest-requires c κs = search needs
-
-same-length-2 : tie.Need-same-length-2
-same-length-2 c = search needs
 
 returns-2 : tie.Need-returns-2
 returns-2 c =
@@ -72,19 +36,11 @@ pub decode-into-spec : {M : Type 1} → statement M
 decode-into-spec =
     tie.close
     (tie.spec
-    mul-decode-groups
+    (λ c. search needs)
     slice-aggregate-decode-groups
     decode-groups-requires
-    same-length
+    (λ c. search needs)
     returns
-    mul-decode-rest
-    sub-decode-rest
-    part-decode-rest-start
-    part-decode-rest-end
-    mul-decode-rest-2
-    sub-decode-rest-2
-    part-decode-rest-start-2
-    part-decode-rest-end-2
-    decode-rest-requires
-    same-length-2
+    (λ c. search needs) (λ c. search needs) (λ c. search needs) (λ c. search needs) (λ c. search needs)
+    (λ c. search needs) (λ c. search needs) (λ c. search needs) (λ c κs. search needs) (λ c. search needs)
     returns-2)

@@ -29,21 +29,6 @@ returns-2 c =
     let out = c .before .before .before .before .args .out .now in
     subst (λ (l : List ℕ). Decodes l out false out) (listed s 1 (c .if2 .taken)) (alone (getD s 0 0) out)
 
-shared-slice-read-decode-group : tie.Need-shared-slice-read-decode-group
-shared-slice-read-decode-group c = search needs
-
-shared-slice-read-decode-group-2 : tie.Need-shared-slice-read-decode-group-2
-shared-slice-read-decode-group-2 c = search needs
-
-decode-group-requires : tie.Need-decode-group-requires
-decode-group-requires c κs = search needs
-
-slice-write-out : tie.Need-slice-write-out
-slice-write-out c = search needs
-
-same-length : tie.Need-same-length
-same-length c = search needs
-
 returns-3 : tie.Need-returns-3
 unfolding entries
 returns-3 c =
@@ -62,26 +47,8 @@ returns-4 c =
     subst (λ (l : List ℕ). Decodes l out false out) (listed s 2 (omega arith))
     (bad (⊎-elim (λ w. rw (w .2 .left) (and-false (c .before .decode-group .result .ok))) (λ w. rw (w .left)) (c .if4 .came)))
 
-shared-slice-read-decode-group-3 : tie.Need-shared-slice-read-decode-group-3
-shared-slice-read-decode-group-3 c = search needs
-
-shared-slice-read-decode-group-4 : tie.Need-shared-slice-read-decode-group-4
-shared-slice-read-decode-group-4 c = search needs
-
-shared-slice-read-decode-group-5 : tie.Need-shared-slice-read-decode-group-5
-shared-slice-read-decode-group-5 c = search needs
-
-decode-group-requires-2 : tie.Need-decode-group-requires-2
-decode-group-requires-2 c κs = search needs
-
-slice-write-out-2 : tie.Need-slice-write-out-2
-slice-write-out-2 c = search needs
-
 slice-write-out-3 : tie.Need-slice-write-out-3
 slice-write-out-3 c = simp length-set (omega arith)
-
-same-length-2 : tie.Need-same-length-2
-same-length-2 c = search needs
 
 returns-5 : tie.Need-returns-5
 unfolding entries
@@ -107,19 +74,11 @@ decode-rest-spec =
     (tie.spec
     returns
     returns-2
-    shared-slice-read-decode-group
-    shared-slice-read-decode-group-2
-    decode-group-requires
-    slice-write-out
-    same-length
+    (λ c. search needs) (λ c. search needs) (λ c κs. search needs) (λ c. search needs) (λ c. search needs)
     returns-3
     returns-4
-    shared-slice-read-decode-group-3
-    shared-slice-read-decode-group-4
-    shared-slice-read-decode-group-5
-    decode-group-requires-2
-    slice-write-out-2
+    (λ c. search needs) (λ c. search needs) (λ c. search needs) (λ c κs. search needs) (λ c. search needs)
     slice-write-out-3
-    same-length-2
+    (λ c. search needs)
     returns-5
     returns-6)

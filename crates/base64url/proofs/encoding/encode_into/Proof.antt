@@ -10,9 +10,6 @@ use Rattle.base64url.proofs.EncodeLaws.{rest-fits, whole}
 use Rattle.base64url.proofs.encoding.encode_into.Statement.{statement}
 use Rattle.base64url.proofs.encoding.encode_into.Tie as tie
 
-mul-encode-groups : tie.Need-mul-encode-groups
-mul-encode-groups c = search needs
-
 slice-aggregate-encode-groups : tie.Need-slice-aggregate-encode-groups
 slice-aggregate-encode-groups c = let s = c .before .before .before .args .bytes .now in sym (length-take-le (length s / 3 * 3) s (omega arith))
 
@@ -22,38 +19,11 @@ encode-groups-requires c κs =
     let n = length-take-le (length s / 3 * 3) s (omega arith) in
     (c .before .before .before .before .pre .0, omega (arith, n), omega (arith, n, encoded-length (length s), encoded-length (length (take (length s / 3 * 3) s))))
 
-mul-encode-rest : tie.Need-mul-encode-rest
-mul-encode-rest c = search needs
-
-sub-encode-rest : tie.Need-sub-encode-rest
-sub-encode-rest c = search needs
-
-part-encode-rest-start : tie.Need-part-encode-rest-start
-part-encode-rest-start c = search needs
-
-part-encode-rest-end : tie.Need-part-encode-rest-end
-part-encode-rest-end c = search needs
-
-mul-encode-rest-2 : tie.Need-mul-encode-rest-2
-mul-encode-rest-2 c = search needs
-
-sub-encode-rest-2 : tie.Need-sub-encode-rest-2
-sub-encode-rest-2 c = search needs
-
-part-encode-rest-start-2 : tie.Need-part-encode-rest-start-2
-part-encode-rest-start-2 c = search needs
-
-part-encode-rest-end-2 : tie.Need-part-encode-rest-end-2
-part-encode-rest-end-2 c = search needs
-
 encode-rest-requires : tie.Need-encode-rest-requires
 encode-rest-requires c κs =
     let s = c .before .before .before .before .before .before .before .before .before .args .bytes .now in
     let f = rest-fits s (c .before .before .before .before .encode-groups .last .1 .1 .0) (omega (arith, c .before .before .before .before .encode-groups .kept)) in
     (c .before .before .before .before .before .before .before .before .before .pre .0, f .0, f .1)
-
-same-length : tie.Need-same-length
-same-length c = search needs
 
 returns : tie.Need-returns
 returns c =
@@ -66,17 +36,11 @@ pub encode-into-spec : {M : Type 1} → statement M
 encode-into-spec =
     tie.close
     (tie.spec
-    mul-encode-groups
+    (λ c. search needs)
     slice-aggregate-encode-groups
     encode-groups-requires
-    mul-encode-rest
-    sub-encode-rest
-    part-encode-rest-start
-    part-encode-rest-end
-    mul-encode-rest-2
-    sub-encode-rest-2
-    part-encode-rest-start-2
-    part-encode-rest-end-2
+    (λ c. search needs) (λ c. search needs) (λ c. search needs) (λ c. search needs) (λ c. search needs)
+    (λ c. search needs) (λ c. search needs) (λ c. search needs)
     encode-rest-requires
-    same-length
+    (λ c. search needs)
     returns)

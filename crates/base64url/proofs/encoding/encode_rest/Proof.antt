@@ -21,20 +21,11 @@ returns c =
     let out = c .before .before .before .args .out .now in
     subst (λ (l : List ℕ). out ≡ laid (encode l) out) (listed s 0 (c .if1 .taken)) refl
 
-shared-slice-read-encode-group : tie.Need-shared-slice-read-encode-group
-shared-slice-read-encode-group c = search needs
-
-encode-group-requires : tie.Need-encode-group-requires
-encode-group-requires c κs = search needs
-
 slice-write-out : tie.Need-slice-write-out
 slice-write-out c = omega (arith, encoded-length (length (c .before .before .before .before .before .before .args .bytes .now)))
 
 slice-write-out-2 : tie.Need-slice-write-out-2
 slice-write-out-2 c = simp length-set (omega (arith, encoded-length (length (c .before .before .before .before .before .before .args .bytes .now))))
-
-same-length : tie.Need-same-length
-same-length c = search needs
 
 returns-2 : tie.Need-returns-2
 unfolding entries
@@ -45,15 +36,6 @@ returns-2 c =
     subst (λ (l : List ℕ). set (set out 0 (g .result .a)) 1 (g .result .b) ≡ laid (encode l) out) (listed s 1 (omega arith))
     (one-byte _ _ _ _ _ out (g .ensures) (omega (arith, encoded-length (length s))))
 
-shared-slice-read-encode-group-2 : tie.Need-shared-slice-read-encode-group-2
-shared-slice-read-encode-group-2 c = search needs
-
-shared-slice-read-encode-group-3 : tie.Need-shared-slice-read-encode-group-3
-shared-slice-read-encode-group-3 c = search needs
-
-encode-group-requires-2 : tie.Need-encode-group-requires-2
-encode-group-requires-2 c κs = search needs
-
 slice-write-out-3 : tie.Need-slice-write-out-3
 slice-write-out-3 c = omega (arith, encoded-length (length (c .before .before .before .before .before .before .before .args .bytes .now)))
 
@@ -62,9 +44,6 @@ slice-write-out-4 c = simp length-set (omega (arith, encoded-length (length (c .
 
 slice-write-out-5 : tie.Need-slice-write-out-5
 slice-write-out-5 c = simp length-set (omega (arith, encoded-length (length (c .before .before .before .before .before .before .before .args .bytes .now))))
-
-same-length-2 : tie.Need-same-length-2
-same-length-2 c = search needs
 
 returns-3 : tie.Need-returns-3
 unfolding entries
@@ -80,17 +59,14 @@ encode-rest-spec =
     tie.close
     (tie.spec
     returns
-    shared-slice-read-encode-group
-    encode-group-requires
+    (λ c. search needs) (λ c κs. search needs)
     slice-write-out
     slice-write-out-2
-    same-length
+    (λ c. search needs)
     returns-2
-    shared-slice-read-encode-group-2
-    shared-slice-read-encode-group-3
-    encode-group-requires-2
+    (λ c. search needs) (λ c. search needs) (λ c κs. search needs)
     slice-write-out-3
     slice-write-out-4
     slice-write-out-5
-    same-length-2
+    (λ c. search needs)
     returns-3)

@@ -5,17 +5,11 @@ use Rattle.base64url.proofs.RefusalLaws.{unused-length, at-outside, at-
 use Rattle.base64url.proofs.fault.refuse.Statement.{statement}
 use Rattle.base64url.proofs.fault.refuse.Tie as tie
 
-first-outside-requires : tie.Need-first-outside-requires
-first-outside-requires c κs = search needs
-
 returns : tie.Need-returns
 returns c = at-outside _ (c .before .first-outside .ensures) (c .if1 .taken)
 
 returns-2 : tie.Need-returns-2
 returns-2 c = at-end _ (c .before .before .first-outside .ensures) (c .before .if1 .left) (c .if2 .taken)
-
-unused-bits-requires : tie.Need-unused-bits-requires
-unused-bits-requires c κs = search needs
 
 sub-t9 : tie.Need-sub-t9
 sub-t9 c = unused-length _ (λ e. c .if3 .left (c .before .unused-bits .ensures ∙ e))
@@ -30,10 +24,10 @@ pub refuse-spec : {M : Type 1} → statement M
 refuse-spec =
     tie.close
     (tie.spec
-    first-outside-requires
+    (λ c κs. search needs)
     returns
     returns-2
-    unused-bits-requires
+    (λ c κs. search needs)
     sub-t9
     returns-3
     returns-4)

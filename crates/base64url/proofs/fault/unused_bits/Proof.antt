@@ -14,15 +14,6 @@ returns c =
     let rest = length (c .before .before .args .text .now) % 4 in
     rw (ne-eqb rest 2 (λ e. omega arith), ne-eqb rest 3 (λ e. omega arith))
 
-sub-value-of : tie.Need-sub-value-of
-sub-value-of c = search needs
-
-shared-slice-read-value-of : tie.Need-shared-slice-read-value-of
-shared-slice-read-value-of c = search needs
-
-value-of-requires : tie.Need-value-of-requires
-value-of-requires c κs = search needs
-
 returns-2 : tie.Need-returns-2
 unfolding unusedBits
 returns-2 c = rw (c .before .value-of .ensures, eq-eqb _ 2 (c .if2 .taken))
@@ -38,8 +29,6 @@ unused-bits-spec =
     tie.close
     (tie.spec
     returns
-    sub-value-of
-    shared-slice-read-value-of
-    value-of-requires
+    (λ c. search needs) (λ c. search needs) (λ c κs. search needs)
     returns-2
     returns-3)

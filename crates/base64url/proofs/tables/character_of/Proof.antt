@@ -5,12 +5,9 @@ use Rattle.base64url_rules.specs.Tables.{characters, entry}
 use Rattle.base64url.proofs.tables.character_of.Statement.{statement}
 use Rattle.base64url.proofs.tables.character_of.Tie as tie
 
-element-copy-out-result : tie.Need-element-copy-out-result
-element-copy-out-result c = search needs
-
 returns : tie.Need-returns
 unfolding characters
 returns c = rw (c .before .pre .0) (entry character 64 (c .before .args .v) (search needs))
 
 pub character-of-spec : {M : Type 1} → statement M
-character-of-spec = tie.close (tie.spec element-copy-out-result returns)
+character-of-spec = tie.close (tie.spec (λ c. search needs) returns)

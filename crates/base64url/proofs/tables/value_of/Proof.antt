@@ -5,12 +5,9 @@ use Rattle.base64url_rules.specs.Tables.{values, entry}
 use Rattle.base64url.proofs.tables.value_of.Statement.{statement}
 use Rattle.base64url.proofs.tables.value_of.Tie as tie
 
-element-copy-out-result : tie.Need-element-copy-out-result
-element-copy-out-result c = search needs
-
 returns : tie.Need-returns
 unfolding values
 returns c = rw (c .before .pre) (entry value 256 (c .before .args .c) (search needs))
 
 pub value-of-spec : {M : Type 1} → statement M
-value-of-spec = tie.close (tie.spec element-copy-out-result returns)
+value-of-spec = tie.close (tie.spec (λ c. search needs) returns)

@@ -20,44 +20,17 @@ array c = strings-at (stands-as (c .before .before .before .before .pre .0) (c .
 first : (c : tie.After-known-told2) → FirstElement (now (c .before .before .before .before .before .before .before .before .args .header)) (c .before .before .before .before .before .slot .given .0 .1 .0 .start) (At (c .before .p .given .0 .0))
 first c = first-as (c .before .before .before .first-element .ensures) (c .before .p .given .1)
 
-enum-known-slot : tie.Need-enum-known-slot
-enum-known-slot c = search needs
-
-enum-told : tie.Need-enum-told
-enum-told c = search needs
-
 returns : tie.Need-returns
 returns c = lists-absent (stands-as (c .before .before .before .pre .0) (c .enum-told .given .1))
 
 first-element-requires : tie.Need-first-element-requires
 first-element-requires c κs = array c .within
 
-enum-known-p : tie.Need-enum-known-p
-enum-known-p c = search needs
-
-enum-told-2 : tie.Need-enum-told-2
-enum-told-2 c = search needs
-
 returns-2 : tie.Need-returns-2
 returns-2 c = lists-empty (array (c .before .before .before)) (first-as (c .before .before .first-element .ensures) (c .enum-told2 .given .1))
 
-sub-item-at : tie.Need-sub-item-at
-sub-item-at c = search needs
-
 item-at-requires : tie.Need-item-at-requires
 item-at-requires c κs = let l = first-element _ _ (c .before .before .before .first-element .ensures) .within _ (c .before .p .given .1) in omega arith
-
-slice-aggregate-text-is : tie.Need-slice-aggregate-text-is
-slice-aggregate-text-is c = search needs
-
-text-is-requires : tie.Need-text-is-requires
-text-is-requires c κs = tt
-
-enum-told-3 : tie.Need-enum-told-3
-enum-told-3 c = search needs
-
-enum-told-4 : tie.Need-enum-told-4
-enum-told-4 c = search needs
 
 returns-3 : tie.Need-returns-3
 returns-3 c = lists-more (array (c .before .before .before .before .before .before .before .before .before .before .before)) (first (c .before .before .before .before .before .before .before)) (item-at _ _ _ (c .before .before .before .before .before .before .item-at .ensures)) (c .enum-told3 .given .1)
@@ -74,19 +47,14 @@ pub lists-format-spec : {M : Type 1} → statement M
 lists-format-spec =
     tie.close
     (tie.spec
-    enum-known-slot
-    enum-told
+    (λ c. search needs) (λ c. search needs)
     returns
     first-element-requires
-    enum-known-p
-    enum-told-2
+    (λ c. search needs) (λ c. search needs)
     returns-2
-    sub-item-at
+    (λ c. search needs)
     item-at-requires
-    slice-aggregate-text-is
-    text-is-requires
-    enum-told-3
-    enum-told-4
+    (λ c. search needs) (λ c κs. tt) (λ c. search needs) (λ c. search needs)
     returns-3
     returns-4
     returns-5)

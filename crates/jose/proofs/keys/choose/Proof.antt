@@ -45,20 +45,11 @@ fits c = small-is _ _ (format-is (c .before)) (c .if2 .left)
 chosen-key-requires : tie.Need-chosen-key-requires
 chosen-key-requires c κs = (c .before .before .pre .0, c .before .before .pre .1 .stands theKid)
 
-enum-known-index : tie.Need-enum-known-index
-enum-known-index c = search needs
-
-enum-told : tie.Need-enum-told
-enum-told c = search needs
-
 returns : tie.Need-returns
 returns c = refused-12 _ _ (sym (ap indexOf (c .enum-told .given .1)) ∙ c .before .before .chosen-key .ensures)
 
 allows-hs256-requires : tie.Need-allows-hs256-requires
 allows-hs256-requires c κs = (c .before .before .before .before .before .before .pre .0, chosen-within _ _ (picked c))
-
-small-requires : tie.Need-small-requires
-small-requires c κs = search needs
 
 returns-2 : tie.Need-returns-2
 returns-2 c =
@@ -70,9 +61,6 @@ allows-format-requires : tie.Need-allows-format-requires
 allows-format-requires c κs =
     let k = c .before .before .before .before in
     (k .before .before .before .before .before .before .pre .0, chosen-within _ _ (picked k), fits c .0, fits c .1)
-
-chosen-with-requires : tie.Need-chosen-with-requires
-chosen-with-requires c κs = search needs
 
 returns-3 : tie.Need-returns-3
 returns-3 c =
@@ -110,14 +98,13 @@ choose-spec =
     tie.close
     (tie.spec
     chosen-key-requires
-    enum-known-index
-    enum-told
+    (λ c. search needs) (λ c. search needs)
     returns
     allows-hs256-requires
-    small-requires
+    (λ c κs. search needs)
     returns-2
     allows-format-requires
-    chosen-with-requires
+    (λ c κs. search needs)
     returns-3
     returns-4
     returns-5)

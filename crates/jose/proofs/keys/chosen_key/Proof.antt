@@ -13,20 +13,8 @@ use Rattle.jose.proofs.keys.chosen_key.Tie as tie
 there : (c : tie.After-known-told) → Stands (now (c .before .before .before .before .before .args .header)) kid (Is (c .before .slot .given .0 .0) (c .before .slot .given .0 .1 .0))
 there c = stands-as (c .before .before .before .before .before .pre .1) (c .before .slot .given .1)
 
-enum-known-slot : tie.Need-enum-known-slot
-enum-known-slot c = search needs
-
-enum-told : tie.Need-enum-told
-enum-told c = search needs
-
-only-requires : tie.Need-only-requires
-only-requires c κs = search needs
-
 returns : tie.Need-returns
 returns c = chosen-only _ (stands-as (c .before .before .before .before .before .pre .1) (c .before .enum-told .given .1)) (c .only .ensures)
-
-is-string-requires : tie.Need-is-string-requires
-is-string-requires c κs = search needs
 
 named-key-requires : tie.Need-named-key-requires
 named-key-requires c κs = let s = string-at (there (c .before .before)) (sym (c .before .is-string .ensures) ∙ c .if1 .taken) in (c .before .before .before .before .before .before .before .pre .0, (s .0, s .2))
@@ -41,11 +29,9 @@ pub chosen-key-spec : {M : Type 1} → statement M
 chosen-key-spec =
     tie.close
     (tie.spec
-    enum-known-slot
-    enum-told
-    only-requires
+    (λ c. search needs) (λ c. search needs) (λ c κs. search needs)
     returns
-    is-string-requires
+    (λ c κs. search needs)
     named-key-requires
     returns-2
     returns-3)

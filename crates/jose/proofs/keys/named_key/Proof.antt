@@ -5,31 +5,10 @@ use borrow.Author.Needs.{needs}
 use Rattle.jose.proofs.keys.named_key.Statement.{statement}
 use Rattle.jose.proofs.keys.named_key.Tie as tie
 
-slice-aggregate-resolve : tie.Need-slice-aggregate-resolve
-slice-aggregate-resolve c = search needs
-
-resolve-requires : tie.Need-resolve-requires
-resolve-requires c κs = tt
-
-enum-known-n : tie.Need-enum-known-n
-enum-known-n c = search needs
-
-sub-find : tie.Need-sub-find
-sub-find c = search needs
-
-part-find-start : tie.Need-part-find-start
-part-find-start c = search needs
-
 part-find-end : tie.Need-part-find-end
 part-find-end c =
     let r = c .before .before .before .before .before in
     resolved-within _ _ _ _ _ (r .resolve .ensures) _ (r .before .before .before .before .pre .1 .1) (c .before .before .n .given .1)
-
-find-requires : tie.Need-find-requires
-find-requires c κs = search needs
-
-enum-told : tie.Need-enum-told
-enum-told c = search needs
 
 returns : tie.Need-returns
 returns c =
@@ -45,13 +24,8 @@ pub named-key-spec : {M : Type 1} → statement M
 named-key-spec =
     tie.close
     (tie.spec
-    slice-aggregate-resolve
-    resolve-requires
-    enum-known-n
-    sub-find
-    part-find-start
+    (λ c. search needs) (λ c κs. tt) (λ c. search needs) (λ c. search needs) (λ c. search needs)
     part-find-end
-    find-requires
-    enum-told
+    (λ c κs. search needs) (λ c. search needs)
     returns
     returns-2)

@@ -14,23 +14,8 @@ use Rattle.jose.proofs.keys.other_algorithm.Tie as tie
 there : (c : tie.After-known-told) → Stands (now (c .before .before .before .before .args .header)) alg (Is (c .before .slot .given .0 .0) (c .before .slot .given .0 .1 .0))
 there c = stands-as (c .before .before .before .before .pre) (c .before .slot .given .1)
 
-enum-known-slot : tie.Need-enum-known-slot
-enum-known-slot c = search needs
-
-enum-told : tie.Need-enum-told
-enum-told c = search needs
-
 returns : tie.Need-returns
 returns c = algorithm-absent (stands-as (c .before .before .before .pre) (c .enum-told .given .1))
-
-is-string-requires : tie.Need-is-string-requires
-is-string-requires c κs = search needs
-
-slice-aggregate-text-is : tie.Need-slice-aggregate-text-is
-slice-aggregate-text-is c = search needs
-
-text-is-requires : tie.Need-text-is-requires
-text-is-requires c κs = tt
 
 returns-2 : tie.Need-returns-2
 unfolding ascii HS256
@@ -43,11 +28,8 @@ pub other-algorithm-spec : {M : Type 1} → statement M
 other-algorithm-spec =
     tie.close
     (tie.spec
-    enum-known-slot
-    enum-told
+    (λ c. search needs) (λ c. search needs)
     returns
-    is-string-requires
-    slice-aggregate-text-is
-    text-is-requires
+    (λ c κs. search needs) (λ c. search needs) (λ c κs. tt)
     returns-2
     returns-3)

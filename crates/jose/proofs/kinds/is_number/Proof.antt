@@ -7,12 +7,9 @@ use borrow.Author.Needs.{needs}
 use Rattle.jose.proofs.kinds.is_number.Statement.{statement}
 use Rattle.jose.proofs.kinds.is_number.Tie as tie
 
-number-of-requires : tie.Need-number-of-requires
-number-of-requires c κs = search needs
-
 returns : tie.Need-returns
 unfolding kindNumber
 returns c = ap (λ (n : ℕ). eqb n 2) (c .number-of .ensures)
 
 pub is-number-spec : {M : Type 1} → statement M
-is-number-spec = tie.close (tie.spec number-of-requires returns)
+is-number-spec = tie.close (tie.spec (λ c κs. search needs) returns)

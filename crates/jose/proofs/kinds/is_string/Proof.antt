@@ -7,12 +7,9 @@ use borrow.Author.Needs.{needs}
 use Rattle.jose.proofs.kinds.is_string.Statement.{statement}
 use Rattle.jose.proofs.kinds.is_string.Tie as tie
 
-number-of-requires : tie.Need-number-of-requires
-number-of-requires c κs = search needs
-
 returns : tie.Need-returns
 unfolding kindNumber
 returns c = ap (λ (n : ℕ). eqb n 1) (c .number-of .ensures)
 
 pub is-string-spec : {M : Type 1} → statement M
-is-string-spec = tie.close (tie.spec number-of-requires returns)
+is-string-spec = tie.close (tie.spec (λ c κs. search needs) returns)

@@ -6,29 +6,14 @@ use borrow.Author.Needs.{needs}
 use Rattle.jose.proofs.kinds.missing_or_wrong.Statement.{statement}
 use Rattle.jose.proofs.kinds.missing_or_wrong.Tie as tie
 
-there-requires : tie.Need-there-requires
-there-requires c κs = search needs
-
-no-string-requires : tie.Need-no-string-requires
-no-string-requires c κs = search needs
-
 returns : tie.Need-returns
 returns c = alg-wrong (c .before .before .before .before .before .pre .0) (c .before .before .before .before .before .pre .1) (sym (c .before .before .before .there .ensures) ∙ c .before .before .if1 .taken) (sym (c .before .no-string .ensures) ∙ c .if2 .taken)
-
-no-string-requires-2 : tie.Need-no-string-requires-2
-no-string-requires-2 c κs = search needs
 
 returns-2 : tie.Need-returns-2
 returns-2 c = kid-wrong (c .before .before .before .before .before .before .before .pre .0) (c .before .before .before .before .before .before .before .pre .1) (sym (c .before .before .before .before .before .there .ensures) ∙ c .before .before .before .before .if1 .taken) (sym (c .before .before .before .no-string .ensures) ∙ c .before .before .if2 .left) (sym (c .before .no-string2 .ensures) ∙ c .if3 .taken)
 
-no-string-requires-3 : tie.Need-no-string-requires-3
-no-string-requires-3 c κs = search needs
-
 returns-3 : tie.Need-returns-3
 returns-3 c = typ-wrong (c .before .before .before .before .before .before .before .before .before .pre .0) (c .before .before .before .before .before .before .before .before .before .pre .1) (sym (c .before .before .before .before .before .before .before .there .ensures) ∙ c .before .before .before .before .before .before .if1 .taken) (sym (c .before .before .before .before .before .no-string .ensures) ∙ c .before .before .before .before .if2 .left) (sym (c .before .before .before .no-string2 .ensures) ∙ c .before .before .if3 .left) (sym (c .before .no-string3 .ensures) ∙ c .if4 .taken)
-
-no-string-requires-4 : tie.Need-no-string-requires-4
-no-string-requires-4 c κs = search needs
 
 returns-4 : tie.Need-returns-4
 returns-4 c = cty-wrong (c .before .before .before .before .before .before .before .before .before .before .before .pre .0) (c .before .before .before .before .before .before .before .before .before .before .before .pre .1) (sym (c .before .before .before .before .before .before .before .before .before .there .ensures) ∙ c .before .before .before .before .before .before .before .before .if1 .taken) (sym (c .before .before .before .before .before .before .before .no-string .ensures) ∙ c .before .before .before .before .before .before .if2 .left) (sym (c .before .before .before .before .before .no-string2 .ensures) ∙ c .before .before .before .before .if3 .left) (sym (c .before .before .before .no-string3 .ensures) ∙ c .before .before .if4 .left) (sym (c .before .no-string4 .ensures) ∙ c .if5 .taken)
@@ -46,14 +31,13 @@ pub missing-or-wrong-spec : {M : Type 1} → statement M
 missing-or-wrong-spec =
     tie.close
     (tie.spec
-    there-requires
-    no-string-requires
+    (λ c κs. search needs) (λ c κs. search needs)
     returns
-    no-string-requires-2
+    (λ c κs. search needs)
     returns-2
-    no-string-requires-3
+    (λ c κs. search needs)
     returns-3
-    no-string-requires-4
+    (λ c κs. search needs)
     returns-4
     no-strings-requires
     returns-5

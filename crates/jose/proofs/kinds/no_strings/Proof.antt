@@ -15,32 +15,17 @@ use Rattle.jose.proofs.kinds.no_strings.Tie as tie
 there : (c : tie.After-known-told) → Stands (now (c .before .before .before .before .args .header)) crit (Is (c .before .slot .given .0 .0) (c .before .slot .given .0 .1 .0))
 there c = stands-as (c .before .before .before .before .pre) (c .before .slot .given .1)
 
-enum-known-slot : tie.Need-enum-known-slot
-enum-known-slot c = search needs
-
-enum-told : tie.Need-enum-told
-enum-told c = search needs
-
 returns : tie.Need-returns
 returns c = sym (wrong-absent strings (stands-as (c .before .before .before .pre) (c .enum-told .given .1)))
 
-is-array-requires : tie.Need-is-array-requires
-is-array-requires c κs = search needs
-
 first-element-requires : tie.Need-first-element-requires
 first-element-requires c κs = array-at (there (c .before .before)) (sym (c .before .is-array .ensures) ∙ c .if1 .taken) .2
-
-enum-known-from : tie.Need-enum-known-from
-enum-known-from c = search needs
 
 strings-from-requires : tie.Need-strings-from-requires
 strings-from-requires c κs = first-element _ _ (c .before .before .before .first-element .ensures) .within _ (c .before .from .given .1)
 
 returns-2 : tie.Need-returns-2
 returns-2 c = no-strings-from (there (c .before .before .before .before .before .before .before)) (sym (c .before .before .before .before .before .before .is-array .ensures) ∙ c .before .before .before .before .before .if1 .taken) (first-as (c .before .before .before .before .first-element .ensures) (c .before .before .from .given .1)) (c .strings-from .ensures)
-
-enum-told-2 : tie.Need-enum-told-2
-enum-told-2 c = search needs
 
 returns-3 : tie.Need-returns-3
 returns-3 c = no-strings-empty (there (c .before .before .before .before .before)) (sym (c .before .before .before .before .is-array .ensures) ∙ c .before .before .before .if1 .taken) (first-as (c .before .before .first-element .ensures) (c .enum-told2 .given .1))
@@ -52,14 +37,13 @@ pub no-strings-spec : {M : Type 1} → statement M
 no-strings-spec =
     tie.close
     (tie.spec
-    enum-known-slot
-    enum-told
+    (λ c. search needs) (λ c. search needs)
     returns
-    is-array-requires
+    (λ c κs. search needs)
     first-element-requires
-    enum-known-from
+    (λ c. search needs)
     strings-from-requires
     returns-2
-    enum-told-2
+    (λ c. search needs)
     returns-3
     returns-4)

@@ -19,26 +19,11 @@ abbrev μ-loop : tie.MeasureT-loop
 loop-holds : tie.Need-loop-holds Inv-loop μ-loop
 loop-holds c = (c .before .pre, λ r w. w)
 
-sub-item-at : tie.Need-sub-item-at Inv-loop μ-loop
-sub-item-at c = omega arith
-
-item-at-requires : tie.Need-item-at-requires Inv-loop μ-loop
-item-at-requires c κs = omega arith
-
-is-string-requires : tie.Need-is-string-requires Inv-loop μ-loop
-is-string-requires c κs = search needs
-
-enum-known-next : tie.Need-enum-known-next Inv-loop μ-loop
-enum-known-next c = search needs
-
 loop-less : tie.Need-loop-less Inv-loop μ-loop
 loop-less c = let l = item-at _ _ _ (c .before .before .before .before .before .item-at .ensures) .later _ (c .before .next .given .1) in omega arith
 
 loop-again : tie.Need-loop-again Inv-loop μ-loop
 loop-again c = (item-at _ _ _ (c .before .before .before .before .before .item-at .ensures) .later _ (c .before .next .given .1) .1, λ r w. c .before .before .before .before .before .before .loop .inv .1 r (strings-next (item-at _ _ _ (c .before .before .before .before .before .item-at .ensures)) (c .before .before .before .before .is-string .ensures) (c .before .before .before .if1 .taken) (c .before .next .given .1) w))
-
-enum-told : tie.Need-enum-told Inv-loop μ-loop
-enum-told c = search needs
 
 returns : tie.Need-returns Inv-loop μ-loop
 returns c = c .before .before .before .before .before .loop .inv .1 _ (strings-last (item-at _ _ _ (c .before .before .before .before .item-at .ensures)) (c .before .before .before .is-string .ensures) (c .before .before .if1 .taken) (c .enum-told .given .1))
@@ -53,12 +38,9 @@ strings-from-spec =
     Inv-loop
     μ-loop
     loop-holds
-    sub-item-at
-    item-at-requires
-    is-string-requires
-    enum-known-next
+    (λ c. omega arith) (λ c κs. omega arith) (λ c κs. search needs) (λ c. search needs)
     loop-less
     loop-again
-    enum-told
+    (λ c. search needs)
     returns
     returns-2)

@@ -5,20 +5,8 @@ use borrow.Author.Needs.{needs}
 use Rattle.jose.proofs.members.known_members.Statement.{statement}
 use Rattle.jose.proofs.members.known_members.Tie as tie
 
-top-members-requires : tie.Need-top-members-requires
-top-members-requires c κs = search needs
-
-enum-known-from : tie.Need-enum-known-from
-enum-known-from c = search needs
-
 walk-requires : tie.Need-walk-requires
 walk-requires c κs = top-members _ (c .before .before .before .top-members .ensures) .within _ (c .before .from .given .1)
-
-enum-told : tie.Need-enum-told
-enum-told c = search needs
-
-none-known-requires : tie.Need-none-known-requires
-none-known-requires c κs = search needs
 
 returns : tie.Need-returns
 returns c = located-from (c .before .before .before .before .before .before .pre) (top-members _ (c .before .before .before .before .top-members .ensures)) (c .before .before .from .given .1) (c .walk .ensures)
@@ -30,10 +18,8 @@ pub known-members-spec : {M : Type 1} → statement M
 known-members-spec =
     tie.close
     (tie.spec
-    top-members-requires
-    enum-known-from
+    (λ c κs. search needs) (λ c. search needs)
     walk-requires
-    enum-told
-    none-known-requires
+    (λ c. search needs) (λ c κs. search needs)
     returns
     returns-2)

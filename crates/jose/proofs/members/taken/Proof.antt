@@ -4,17 +4,8 @@ use borrow.Author.Needs.{needs}
 use Rattle.jose.proofs.members.taken.Statement.{statement}
 use Rattle.jose.proofs.members.taken.Tie as tie
 
-there-requires : tie.Need-there-requires
-there-requires c κs = search needs
-
 returns : tie.Need-returns
 returns c = taken-kept _ (c .before .there .ensures) (c .if1 .taken)
-
-add-text-is : tie.Need-add-text-is
-add-text-is c = search needs
-
-text-is-requires : tie.Need-text-is-requires
-text-is-requires c κs = tt
 
 returns-2 : tie.Need-returns-2
 returns-2 c = taken-new _ (c .before .before .text-is .ensures) _ (c .before .before .before .before .there .ensures) (c .before .before .before .if1 .left) (c .before .if2 .taken)
@@ -24,4 +15,4 @@ returns-3 c = taken-other _ (c .before .text-is .ensures) _ (c .if2 .left)
 
 pub taken-spec : {M : Type 1} → statement M
 taken-spec =
-    tie.close (tie.spec there-requires returns add-text-is text-is-requires returns-2 returns-3)
+    tie.close (tie.spec (λ c κs. search needs) returns (λ c. search needs) (λ c κs. tt) returns-2 returns-3)

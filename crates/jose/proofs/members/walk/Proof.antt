@@ -14,9 +14,6 @@ Inv-loop header from known₀ p₀ known p = (p < length header) × Walking head
 abbrev μ-loop : tie.MeasureT-loop
 μ-loop header from known₀ p₀ known p = length header - p
 
-none-known-requires : tie.Need-none-known-requires Inv-loop μ-loop
-none-known-requires c κs = search needs
-
 loop-holds : tie.Need-loop-holds Inv-loop μ-loop
 loop-holds c = (c .before .before .pre, walk-start (c .none-known .ensures))
 
@@ -26,17 +23,11 @@ entry-at-requires c κs = c .loop .inv .0
 noted-requires : tie.Need-noted-requires Inv-loop μ-loop
 noted-requires c κs = c .before .loop .inv .0
 
-enum-known-next : tie.Need-enum-known-next Inv-loop μ-loop
-enum-known-next c = search needs
-
 loop-less : tie.Need-loop-less Inv-loop μ-loop
 loop-less c = let l = entry-at _ _ _ (c .before .before .before .before .entry-at .ensures) .later _ (c .before .next .given .1) in omega arith
 
 loop-again : tie.Need-loop-again Inv-loop μ-loop
 loop-again c = (entry-at _ _ _ (c .before .before .before .before .entry-at .ensures) .later _ (c .before .next .given .1) .1, walk-next (c .before .before .before .before .before .loop .inv .1) (entry-at _ _ _ (c .before .before .before .before .entry-at .ensures)) (c .before .before .before .noted .ensures) (c .before .next .given .1))
-
-enum-told : tie.Need-enum-told Inv-loop μ-loop
-enum-told c = search needs
 
 returns : tie.Need-returns Inv-loop μ-loop
 returns c = walk-end (c .before .before .before .before .loop .inv .1) (entry-at _ _ _ (c .before .before .before .entry-at .ensures)) (c .before .before .noted .ensures) (c .enum-told .given .1)
@@ -47,12 +38,12 @@ walk-spec =
     (tie.spec
     Inv-loop
     μ-loop
-    none-known-requires
+    (λ c κs. search needs)
     loop-holds
     entry-at-requires
     noted-requires
-    enum-known-next
+    (λ c. search needs)
     loop-less
     loop-again
-    enum-told
+    (λ c. search needs)
     returns)

@@ -7,12 +7,6 @@ use Rattle.json.proofs.header.check.Tie as tie
 returns : tie.Need-returns
 returns c = law.check-long _ (c .if1 .taken)
 
-text-requires : tie.Need-text-requires
-text-requires c κs = search needs
-
-twice-from-requires : tie.Need-twice-from-requires
-twice-from-requires c κs = search needs
-
 returns-2 : tie.Need-returns-2
 returns-2 c = law.check-twice _ (c .before .before .before .before .if1 .left) (c .before .before .before .text .ensures) (c .before .before .if2 .taken) (c .before .twice-from .ensures) (c .if3 .taken)
 
@@ -27,8 +21,7 @@ check-spec =
     tie.close
     (tie.spec
     returns
-    text-requires
-    twice-from-requires
+    (λ c κs. search needs) (λ c κs. search needs)
     returns-2
     returns-3
     returns-4)

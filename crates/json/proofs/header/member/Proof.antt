@@ -5,26 +5,11 @@ use Rattle.json.proofs.HeaderLaws as law
 use Rattle.json.proofs.header.member.Statement.{statement}
 use Rattle.json.proofs.header.member.Tie as tie
 
-check-requires : tie.Need-check-requires
-check-requires c κs = search needs
-
-top-members-requires : tie.Need-top-members-requires
-top-members-requires c κs = search needs
-
-enum-known-p : tie.Need-enum-known-p
-enum-known-p c = search needs
-
-sub-nth-member : tie.Need-sub-nth-member
-sub-nth-member c = search needs
-
 nth-member-requires : tie.Need-nth-member-requires
 nth-member-requires c κs = top-members _ (c .before .before .before .top-members .ensures) .within _ (c .before .p .given .1)
 
 returns : tie.Need-returns
 returns c = law.member-picked _ _ (c .before .before .before .before .before .before .check .ensures) (c .before .before .before .before .before .if1 .taken) (law.tops _ (c .before .before .p .given .1) (c .before .before .before .before .top-members .ensures)) (c .nth-member .ensures)
-
-enum-told : tie.Need-enum-told
-enum-told c = search needs
 
 returns-2 : tie.Need-returns-2
 returns-2 c = law.member-none _ _ (c .before .before .before .before .check .ensures) (c .before .before .before .if1 .taken) (law.tops _ (c .enum-told .given .1) (c .before .before .top-members .ensures))
@@ -36,12 +21,9 @@ pub member-spec : {M : Type 1} → statement M
 member-spec =
     tie.close
     (tie.spec
-    check-requires
-    top-members-requires
-    enum-known-p
-    sub-nth-member
+    (λ c κs. search needs) (λ c κs. search needs) (λ c. search needs) (λ c. search needs)
     nth-member-requires
     returns
-    enum-told
+    (λ c. search needs)
     returns-2
     returns-3)

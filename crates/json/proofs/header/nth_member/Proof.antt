@@ -19,29 +19,11 @@ abbrev μ-loop : tie.MeasureT-loop
 loop-holds : tie.Need-loop-holds Inv-loop μ-loop
 loop-holds c = (omega arith, λ r h. h)
 
-entry-at-requires : tie.Need-entry-at-requires Inv-loop μ-loop
-entry-at-requires c κs = omega arith
-
-shown-requires : tie.Need-shown-requires Inv-loop μ-loop
-shown-requires c κs = search needs
-
 returns : tie.Need-returns Inv-loop μ-loop
 returns c = c .before .before .before .before .before .loop .inv .1 _ (law.pick-here _ (entry-at _ _ _ (c .before .before .before .before .entry-at .ensures)) (c .before .before .before .if1 .taken) (c .shown .ensures))
 
-enum-known-next : tie.Need-enum-known-next Inv-loop μ-loop
-enum-known-next c = search needs
-
-sub-left : tie.Need-sub-left Inv-loop μ-loop
-sub-left c = omega arith
-
-loop-less : tie.Need-loop-less Inv-loop μ-loop
-loop-less c = omega arith
-
 loop-again : tie.Need-loop-again Inv-loop μ-loop
 loop-again c = (entry-at _ _ _ (c .before .before .before .before .entry-at .ensures) .later _ (c .before .next .given .1) .1, λ r h. c .before .before .before .before .before .loop .inv .1 r (law.pick-next _ (entry-at _ _ _ (c .before .before .before .before .entry-at .ensures)) _ (c .before .before .before .if1 .left) (c .before .next .given .1) h))
-
-enum-told : tie.Need-enum-told Inv-loop μ-loop
-enum-told c = search needs
 
 returns-2 : tie.Need-returns-2 Inv-loop μ-loop
 returns-2 c = c .before .before .before .before .loop .inv .1 _ (law.pick-none _ (entry-at _ _ _ (c .before .before .before .entry-at .ensures)) _ (c .before .before .if1 .left) (c .enum-told .given .1))
@@ -53,12 +35,9 @@ nth-member-spec =
     Inv-loop
     μ-loop
     loop-holds
-    entry-at-requires
-    shown-requires
+    (λ c κs. omega arith) (λ c κs. search needs)
     returns
-    enum-known-next
-    sub-left
-    loop-less
+    (λ c. search needs) (λ c. omega arith) (λ c. omega arith)
     loop-again
-    enum-told
+    (λ c. search needs)
     returns-2)

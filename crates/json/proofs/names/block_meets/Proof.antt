@@ -27,56 +27,20 @@ abbrev μ-pairs : tie.MeasureT-pairs
 pairs-holds : tie.Need-pairs-holds Inv-loop μ-loop Inv-pairs μ-pairs
 pairs-holds c = (omega arith, λ r h. h)
 
-add-fingerprint : tie.Need-add-fingerprint Inv-loop μ-loop Inv-pairs μ-pairs
-add-fingerprint c = omega arith
-
-fingerprint-requires : tie.Need-fingerprint-requires Inv-loop μ-loop Inv-pairs μ-pairs
-fingerprint-requires c κs = tt
-
 loop-holds : tie.Need-loop-holds Inv-loop μ-loop Inv-pairs μ-pairs
 loop-holds c = (omega arith, law.without-start _)
-
-add-same-by-fingerprint : tie.Need-add-same-by-fingerprint Inv-loop μ-loop Inv-pairs μ-pairs
-add-same-by-fingerprint c = omega arith
-
-mul-same-by-fingerprint : tie.Need-mul-same-by-fingerprint Inv-loop μ-loop Inv-pairs μ-pairs
-mul-same-by-fingerprint c = search needs
-
-element-copy-out-same-by-fingerprint : tie.Need-element-copy-out-same-by-fingerprint Inv-loop μ-loop Inv-pairs μ-pairs
-element-copy-out-same-by-fingerprint c = omega arith
-
-mul-same-by-fingerprint-2 : tie.Need-mul-same-by-fingerprint-2 Inv-loop μ-loop Inv-pairs μ-pairs
-mul-same-by-fingerprint-2 c = search needs
-
-element-copy-out-same-by-fingerprint-2 : tie.Need-element-copy-out-same-by-fingerprint-2 Inv-loop μ-loop Inv-pairs μ-pairs
-element-copy-out-same-by-fingerprint-2 c = omega arith
 
 same-by-fingerprint-requires : tie.Need-same-by-fingerprint-requires Inv-loop μ-loop Inv-pairs μ-pairs
 same-by-fingerprint-requires c κs = let t = c .before .before .loop-test .taken in let m = c .before .before .before .before .before .before .before .pre .1 in (c .before .before .before .before .fingerprint .ensures, m .fingerprints _ t)
 
-add-i : tie.Need-add-i Inv-loop μ-loop Inv-pairs μ-pairs
-add-i c = omega arith
-
-loop-less : tie.Need-loop-less Inv-loop μ-loop Inv-pairs μ-pairs
-loop-less c = omega arith
-
 loop-again : tie.Need-loop-again Inv-loop μ-loop Inv-pairs μ-pairs
 loop-again c = (omega arith, law.without-next (c .before .before .before .before .before .loop .inv .1) (sym (c .before .same-by-fingerprint .ensures) ∙ c .if1 .left))
-
-entry-at-requires : tie.Need-entry-at-requires Inv-loop μ-loop Inv-pairs μ-pairs
-entry-at-requires c κs = omega arith
-
-enum-known-next : tie.Need-enum-known-next Inv-loop μ-loop Inv-pairs μ-pairs
-enum-known-next c = search needs
 
 pairs-less : tie.Need-pairs-less Inv-loop μ-loop Inv-pairs μ-pairs
 pairs-less c = let k = entry-at _ _ _ (c .before .before .before .entry-at .ensures) .later _ (c .before .next .given .1) in omega (arith, k .0, k .1)
 
 pairs-again : tie.Need-pairs-again Inv-loop μ-loop Inv-pairs μ-pairs
 pairs-again c = (entry-at _ _ _ (c .before .before .before .entry-at .ensures) .later _ (c .before .next .given .1) .1, λ r h. c .before .before .before .before .before .before .before .pairs .inv .1 r (law.meets-next _ (law.without-all (c .before .before .before .before .before .loop .inv .1) (c .before .before .before .before .before .loop .inv .0) (c .before .before .before .before .loop-test .left)) (entry-at _ _ _ (c .before .before .before .entry-at .ensures)) (c .before .next .given .1) h))
-
-enum-told : tie.Need-enum-told Inv-loop μ-loop Inv-pairs μ-pairs
-enum-told c = search needs
 
 returns : tie.Need-returns Inv-loop μ-loop Inv-pairs μ-pairs
 returns c = c .before .before .before .before .before .before .pairs .inv .1 _ (law.meets-last _ (law.without-all (c .before .before .before .before .loop .inv .1) (c .before .before .before .before .loop .inv .0) (c .before .before .before .loop-test .left)) (entry-at _ _ _ (c .before .before .entry-at .ensures)) (c .enum-told .given .1))
@@ -93,22 +57,15 @@ block-meets-spec =
     Inv-pairs
     μ-pairs
     pairs-holds
-    add-fingerprint
-    fingerprint-requires
+    (λ c. omega arith) (λ c κs. tt)
     loop-holds
-    add-same-by-fingerprint
-    mul-same-by-fingerprint
-    element-copy-out-same-by-fingerprint
-    mul-same-by-fingerprint-2
-    element-copy-out-same-by-fingerprint-2
+    (λ c. omega arith) (λ c. search needs) (λ c. omega arith) (λ c. search needs) (λ c. omega arith)
     same-by-fingerprint-requires
-    add-i
-    loop-less
+    (λ c. omega arith) (λ c. omega arith)
     loop-again
-    entry-at-requires
-    enum-known-next
+    (λ c κs. omega arith) (λ c. search needs)
     pairs-less
     pairs-again
-    enum-told
+    (λ c. search needs)
     returns
     returns-2)

@@ -40,65 +40,14 @@ returns-2 c = law.filling-past _ (law.full (c .before .before .before .before .i
 add-fingerprint : tie.Need-add-fingerprint Inv-loop μ-loop Inv-pairs μ-pairs
 add-fingerprint c = omega (arith, c .before .pairs .inv .4 .high)
 
-fingerprint-requires : tie.Need-fingerprint-requires Inv-loop μ-loop Inv-pairs μ-pairs
-fingerprint-requires c κs = tt
-
 loop-holds : tie.Need-loop-holds Inv-loop μ-loop Inv-pairs μ-pairs
 loop-holds c = (omega arith, law.without-start _)
-
-add-same-by-fingerprint : tie.Need-add-same-by-fingerprint Inv-loop μ-loop Inv-pairs μ-pairs
-add-same-by-fingerprint c = omega arith
-
-mul-same-by-fingerprint : tie.Need-mul-same-by-fingerprint Inv-loop μ-loop Inv-pairs μ-pairs
-mul-same-by-fingerprint c = search needs
-
-array-read-same-by-fingerprint : tie.Need-array-read-same-by-fingerprint Inv-loop μ-loop Inv-pairs μ-pairs
-array-read-same-by-fingerprint c = omega arith
-
-mul-same-by-fingerprint-2 : tie.Need-mul-same-by-fingerprint-2 Inv-loop μ-loop Inv-pairs μ-pairs
-mul-same-by-fingerprint-2 c = search needs
-
-array-read-same-by-fingerprint-2 : tie.Need-array-read-same-by-fingerprint-2 Inv-loop μ-loop Inv-pairs μ-pairs
-array-read-same-by-fingerprint-2 c = omega arith
 
 same-by-fingerprint-requires : tie.Need-same-by-fingerprint-requires Inv-loop μ-loop Inv-pairs μ-pairs
 same-by-fingerprint-requires c κs = let i = c .before .before .before .before .pairs .inv in let t = c .loop-test .taken in (c .before .before .fingerprint .ensures, i .3 .fingerprints _ t)
 
-add-i : tie.Need-add-i Inv-loop μ-loop Inv-pairs μ-pairs
-add-i c = omega arith
-
-loop-less : tie.Need-loop-less Inv-loop μ-loop Inv-pairs μ-pairs
-loop-less c = omega arith
-
 loop-again : tie.Need-loop-again Inv-loop μ-loop Inv-pairs μ-pairs
 loop-again c = (omega arith, law.without-next (c .before .before .before .loop .inv .1) (sym (c .before .same-by-fingerprint .ensures) ∙ c .if3 .left))
-
-entry-at-requires : tie.Need-entry-at-requires Inv-loop μ-loop Inv-pairs μ-pairs
-entry-at-requires c κs = omega arith
-
-add-names : tie.Need-add-names Inv-loop μ-loop Inv-pairs μ-pairs
-add-names c = omega arith
-
-mul-names : tie.Need-mul-names Inv-loop μ-loop Inv-pairs μ-pairs
-mul-names c = search needs
-
-array-write-names : tie.Need-array-write-names Inv-loop μ-loop Inv-pairs μ-pairs
-array-write-names c = omega arith
-
-mul-fingerprints : tie.Need-mul-fingerprints Inv-loop μ-loop Inv-pairs μ-pairs
-mul-fingerprints c = search needs
-
-array-write-fingerprints : tie.Need-array-write-fingerprints Inv-loop μ-loop Inv-pairs μ-pairs
-array-write-fingerprints c = omega arith
-
-add-count : tie.Need-add-count Inv-loop μ-loop Inv-pairs μ-pairs
-add-count c = omega arith
-
-enum-known-next : tie.Need-enum-known-next Inv-loop μ-loop Inv-pairs μ-pairs
-enum-known-next c = search needs
-
-pairs-less : tie.Need-pairs-less Inv-loop μ-loop Inv-pairs μ-pairs
-pairs-less c = omega arith
 
 pairs-again : tie.Need-pairs-again Inv-loop μ-loop Inv-pairs μ-pairs
 pairs-again c =
@@ -109,9 +58,6 @@ pairs-again c =
       law.fingerprinted-next (i .3) _ _ (c .before .before .before .before .before .before .fingerprint .ensures) (omega (arith, i .1)) (omega (arith, i .2)),
       law.filling-next _ (i .4) (law.without-all (c .before .before .before .before .before .loop .inv .1) (c .before .before .before .before .before .loop .inv .0) (c .before .before .before .before .loop-test .left)) (entry-at _ _ _ (c .before .before .before .entry-at .ensures)) (c .before .next .given .1) (omega (arith, i .1)),
     )
-
-enum-told : tie.Need-enum-told Inv-loop μ-loop Inv-pairs μ-pairs
-enum-told c = search needs
 
 returns-3 : tie.Need-returns-3 Inv-loop μ-loop Inv-pairs μ-pairs
 returns-3 c = law.filling-last _ (c .before .before .before .before .before .before .before .pairs .inv .4) (law.without-all (c .before .before .before .before .loop .inv .1) (c .before .before .before .before .loop .inv .0) (c .before .before .before .loop-test .left)) (entry-at _ _ _ (c .before .before .entry-at .ensures)) (c .enum-told .given .1)
@@ -132,27 +78,15 @@ block-twice-spec =
     returns
     returns-2
     add-fingerprint
-    fingerprint-requires
+    (λ c κs. tt)
     loop-holds
-    add-same-by-fingerprint
-    mul-same-by-fingerprint
-    array-read-same-by-fingerprint
-    mul-same-by-fingerprint-2
-    array-read-same-by-fingerprint-2
+    (λ c. omega arith) (λ c. search needs) (λ c. omega arith) (λ c. search needs) (λ c. omega arith)
     same-by-fingerprint-requires
-    add-i
-    loop-less
+    (λ c. omega arith) (λ c. omega arith)
     loop-again
-    entry-at-requires
-    add-names
-    mul-names
-    array-write-names
-    mul-fingerprints
-    array-write-fingerprints
-    add-count
-    enum-known-next
-    pairs-less
+    (λ c κs. omega arith) (λ c. omega arith) (λ c. search needs) (λ c. omega arith) (λ c. search needs)
+    (λ c. omega arith) (λ c. omega arith) (λ c. search needs) (λ c. omega arith)
     pairs-again
-    enum-told
+    (λ c. search needs)
     returns-3
     returns-4)

@@ -20,29 +20,14 @@ abbrev μ-loop : tie.MeasureT-loop
 loop-holds : tie.Need-loop-holds Inv-loop μ-loop
 loop-holds c = (omega arith, λ r h. h)
 
-block-twice-requires : tie.Need-block-twice-requires Inv-loop μ-loop
-block-twice-requires c κs = omega arith
-
-enum-told : tie.Need-enum-told Inv-loop μ-loop
-enum-told c = search needs
-
 returns : tie.Need-returns Inv-loop μ-loop
 returns c = c .before .before .before .loop .inv .1 _ (law.names-twice _ (law.searched _ (c .before .before .block-twice .ensures) (c .enum-told .given .1)))
-
-enum-known-rest : tie.Need-enum-known-rest Inv-loop μ-loop
-enum-known-rest c = search needs
-
-enum-known-rest-2 : tie.Need-enum-known-rest-2 Inv-loop μ-loop
-enum-known-rest-2 c = search needs
 
 loop-less : tie.Need-loop-less Inv-loop μ-loop
 loop-less c = let k = c .before .before .before .before .before .before .block-twice .ensures .later _ (c .before .before .before .before .rest .given .1 ∙ ap Past (c .before .rest2 .given .1)) in omega (arith, k .0, k .1)
 
 loop-again : tie.Need-loop-again Inv-loop μ-loop
 loop-again c = (c .before .before .before .before .before .before .block-twice .ensures .later _ (c .before .before .before .before .rest .given .1 ∙ ap Past (c .before .rest2 .given .1)) .1, λ r h. c .before .before .before .before .before .before .before .loop .inv .1 r (law.names-on _ (law.searched _ (c .before .before .before .before .before .before .block-twice .ensures) (c .before .before .before .before .rest .given .1 ∙ ap Past (c .before .rest2 .given .1))) h))
-
-enum-told-2 : tie.Need-enum-told-2 Inv-loop μ-loop
-enum-told-2 c = search needs
 
 returns-2 : tie.Need-returns-2 Inv-loop μ-loop
 returns-2 c = c .before .before .before .before .before .before .loop .inv .1 _ (law.names-once _ (law.searched _ (c .before .before .before .before .before .block-twice .ensures) (c .before .before .before .rest .given .1 ∙ ap Past (c .enum-told2 .given .1))))
@@ -54,12 +39,10 @@ names-twice-spec =
     Inv-loop
     μ-loop
     loop-holds
-    block-twice-requires
-    enum-told
+    (λ c κs. omega arith) (λ c. search needs)
     returns
-    enum-known-rest
-    enum-known-rest-2
+    (λ c. search needs) (λ c. search needs)
     loop-less
     loop-again
-    enum-told-2
+    (λ c. search needs)
     returns-2)

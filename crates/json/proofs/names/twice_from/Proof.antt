@@ -19,53 +19,20 @@ abbrev μ-loop : tie.MeasureT-loop
 loop-holds : tie.Need-loop-holds Inv-loop μ-loop
 loop-holds c = (omega arith, omega arith, λ r h. h)
 
-shared-slice-read-b : tie.Need-shared-slice-read-b Inv-loop μ-loop
-shared-slice-read-b c = omega arith
-
-add-string-end : tie.Need-add-string-end Inv-loop μ-loop
-add-string-end c = omega arith
-
-string-end-requires : tie.Need-string-end-requires Inv-loop μ-loop
-string-end-requires c κs = omega arith
-
-enum-known-e : tie.Need-enum-known-e Inv-loop μ-loop
-enum-known-e c = search needs
-
 loop-less : tie.Need-loop-less Inv-loop μ-loop
 loop-less c = let k = law.string-bounds _ _ (stringed _ _ (c .before .e .given .1) (c .before .before .before .string-end .ensures)) in omega (arith, k .0, k .1, c .before .before .before .before .before .before .loop-test .taken)
 
 loop-again : tie.Need-loop-again Inv-loop μ-loop
 loop-again c = (omega (arith, law.string-bounds _ _ (stringed _ _ (c .before .e .given .1) (c .before .before .before .string-end .ensures)) .0), law.string-bounds _ _ (stringed _ _ (c .before .e .given .1) (c .before .before .before .string-end .ensures)) .1, λ r h. c .before .before .before .before .before .before .before .loop .inv .2 r (law.scan-past _ _ _ (c .before .before .before .before .before .before .loop-test .taken) (c .before .before .before .before .if1 .taken) (stringed _ _ (c .before .e .given .1) (c .before .before .before .string-end .ensures)) h))
 
-enum-told : tie.Need-enum-told Inv-loop μ-loop
-enum-told c = search needs
-
 returns : tie.Need-returns Inv-loop μ-loop
 returns c = c .before .before .before .before .before .before .loop .inv .2 _ (law.scan-broken _ _ _ (c .before .before .before .before .before .loop-test .taken) (c .before .before .before .if1 .taken) (stringed _ _ (c .enum-told .given .1) (c .before .before .string-end .ensures)))
-
-add-object-twice : tie.Need-add-object-twice Inv-loop μ-loop
-add-object-twice c = omega arith
-
-object-twice-requires : tie.Need-object-twice-requires Inv-loop μ-loop
-object-twice-requires c κs = omega arith
 
 returns-2 : tie.Need-returns-2 Inv-loop μ-loop
 returns-2 c = c .before .before .before .before .before .before .loop .inv .2 _ (law.scan-found _ _ _ (c .before .before .before .before .before .loop-test .taken) (c .before .before .if2 .taken) (c .before .object-twice .ensures) (c .if3 .taken))
 
-add-at : tie.Need-add-at Inv-loop μ-loop
-add-at c = omega arith
-
-loop-less-2 : tie.Need-loop-less-2 Inv-loop μ-loop
-loop-less-2 c = omega arith
-
 loop-again-2 : tie.Need-loop-again-2 Inv-loop μ-loop
 loop-again-2 c = (omega arith, omega arith, λ r h. c .before .before .before .before .before .before .loop .inv .2 r (law.scan-object _ _ _ (c .before .before .before .before .before .loop-test .taken) (c .before .before .if2 .taken) (c .before .object-twice .ensures) (c .if3 .left) h))
-
-add-at-2 : tie.Need-add-at-2 Inv-loop μ-loop
-add-at-2 c = omega arith
-
-loop-less-3 : tie.Need-loop-less-3 Inv-loop μ-loop
-loop-less-3 c = omega arith
 
 loop-again-3 : tie.Need-loop-again-3 Inv-loop μ-loop
 loop-again-3 c = (omega arith, omega arith, λ r h. c .before .before .before .before .loop .inv .2 r (law.scan-other _ _ _ (c .before .before .before .loop-test .taken) (c .before .if1 .left) (c .if2 .left) h))
@@ -80,21 +47,15 @@ twice-from-spec =
     Inv-loop
     μ-loop
     loop-holds
-    shared-slice-read-b
-    add-string-end
-    string-end-requires
-    enum-known-e
+    (λ c. omega arith) (λ c. omega arith) (λ c κs. omega arith) (λ c. search needs)
     loop-less
     loop-again
-    enum-told
+    (λ c. search needs)
     returns
-    add-object-twice
-    object-twice-requires
+    (λ c. omega arith) (λ c κs. omega arith)
     returns-2
-    add-at
-    loop-less-2
+    (λ c. omega arith) (λ c. omega arith)
     loop-again-2
-    add-at-2
-    loop-less-3
+    (λ c. omega arith) (λ c. omega arith)
     loop-again-3
     returns-3)

@@ -4,12 +4,9 @@ use borrow.Author.Needs.{needs}
 use Rattle.json_members.proofs.steps.first_member.Statement.{statement}
 use Rattle.json_members.proofs.steps.first_member.Tie as tie
 
-inside-requires : tie.Need-inside-requires
-inside-requires c κs = search needs
-
 returns : tie.Need-returns
 unfolding firstMember
 returns c = c .inside .ensures
 
 pub first-member-spec : {M : Type 1} → statement M
-first-member-spec = tie.close (tie.spec inside-requires returns)
+first-member-spec = tie.close (tie.spec (λ c κs. search needs) returns)

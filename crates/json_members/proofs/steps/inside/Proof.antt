@@ -4,15 +4,6 @@ use borrow.Author.Needs.{needs}
 use Rattle.json_members.proofs.steps.inside.Statement.{statement}
 use Rattle.json_members.proofs.steps.inside.Tie as tie
 
-add-skip-ws : tie.Need-add-skip-ws
-add-skip-ws c = search needs
-
-skip-ws-requires : tie.Need-skip-ws-requires
-skip-ws-requires c κs = search needs
-
-shared-slice-read-if2 : tie.Need-shared-slice-read-if2
-shared-slice-read-if2 c = search needs
-
 returns : tie.Need-returns
 returns c = law.first-closed _ (c .before .before .before .skip-ws .ensures) (c .before .before .if1 .taken) (c .if2 .taken)
 
@@ -25,4 +16,4 @@ returns-3 c = law.first-out _ (c .before .skip-ws .ensures) (c .if1 .left)
 pub inside-spec : {M : Type 1} → statement M
 inside-spec =
     tie.close
-    (tie.spec add-skip-ws skip-ws-requires shared-slice-read-if2 returns returns-2 returns-3)
+    (tie.spec (λ c. search needs) (λ c κs. search needs) (λ c. search needs) returns returns-2 returns-3)

@@ -3,8 +3,5 @@ use mathlib.Core.Path.{refl}
 use Rattle.json_members.proofs.steps.no_entry.Statement.{statement}
 use Rattle.json_members.proofs.steps.no_entry.Tie as tie
 
-returns : tie.Need-returns
-returns c = refl
-
 pub no-entry-spec : {M : Type 1} → statement M
-no-entry-spec = tie.close (tie.spec returns)
+no-entry-spec = tie.close (tie.spec (λ c. refl))

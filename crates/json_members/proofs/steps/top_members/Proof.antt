@@ -4,12 +4,6 @@ use borrow.Author.Needs.{needs}
 use Rattle.json_members.proofs.steps.top_members.Statement.{statement}
 use Rattle.json_members.proofs.steps.top_members.Tie as tie
 
-skip-ws-requires : tie.Need-skip-ws-requires
-skip-ws-requires c κs = search needs
-
-first-member-requires : tie.Need-first-member-requires
-first-member-requires c κs = search needs
-
 returns : tie.Need-returns
 returns c = law.top-is (c .before .before .skip-ws .ensures) (c .before .if1 .taken) (c .first-member .ensures)
 
@@ -17,4 +11,4 @@ returns-2 : tie.Need-returns-2
 returns-2 c = law.top-out (c .before .skip-ws .ensures) (c .if1 .left)
 
 pub top-members-spec : {M : Type 1} → statement M
-top-members-spec = tie.close (tie.spec skip-ws-requires first-member-requires returns returns-2)
+top-members-spec = tie.close (tie.spec (λ c κs. search needs) (λ c κs. search needs) returns returns-2)

@@ -8,18 +8,6 @@ use Rattle.json_reader.proofs.numbers.digits_end.Tie as tie
 returns : tie.Need-returns
 returns c = law.digits-out (c .if1 .taken)
 
-shared-slice-read-is-digit : tie.Need-shared-slice-read-is-digit
-shared-slice-read-is-digit c = search needs
-
-is-digit-requires : tie.Need-is-digit-requires
-is-digit-requires c κs = search needs
-
-add-skip-digits : tie.Need-add-skip-digits
-add-skip-digits c = search needs
-
-skip-digits-requires : tie.Need-skip-digits-requires
-skip-digits-requires c κs = search needs
-
 returns-2 : tie.Need-returns-2
 returns-2 c = law.digits-is (c .before .before .before .before .if1 .left) (sym (c .before .before .is-digit .ensures) ∙ (c .before .if2 .taken)) (c .skip-digits .ensures)
 
@@ -31,9 +19,6 @@ digits-end-spec =
     tie.close
     (tie.spec
     returns
-    shared-slice-read-is-digit
-    is-digit-requires
-    add-skip-digits
-    skip-digits-requires
+    (λ c. search needs) (λ c κs. search needs) (λ c. search needs) (λ c κs. search needs)
     returns-2
     returns-3)

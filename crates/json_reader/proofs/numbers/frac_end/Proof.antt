@@ -7,15 +7,6 @@ use Rattle.json_reader.proofs.numbers.frac_end.Tie as tie
 returns : tie.Need-returns
 returns c = law.frac-out (c .before .before .pre) (c .if1 .taken)
 
-shared-slice-read-if2 : tie.Need-shared-slice-read-if2
-shared-slice-read-if2 c = search needs
-
-add-digits-end : tie.Need-add-digits-end
-add-digits-end c = search needs
-
-digits-end-requires : tie.Need-digits-end-requires
-digits-end-requires c κs = search needs
-
 returns-2 : tie.Need-returns-2
 returns-2 c = law.frac-is (c .before .before .before .if1 .left) (c .before .if2 .taken) (c .digits-end .ensures)
 
@@ -25,4 +16,4 @@ returns-3 c = law.frac-other (c .before .before .if1 .left) (c .if2 .left)
 pub frac-end-spec : {M : Type 1} → statement M
 frac-end-spec =
     tie.close
-    (tie.spec returns shared-slice-read-if2 add-digits-end digits-end-requires returns-2 returns-3)
+    (tie.spec returns (λ c. search needs) (λ c. search needs) (λ c κs. search needs) returns-2 returns-3)

@@ -8,15 +8,6 @@ use Rattle.json_reader.proofs.numbers.skip_sign.Tie as tie
 returns : tie.Need-returns
 returns c = law.sign-out (c .before .before .pre) (c .if1 .taken)
 
-shared-slice-read-is-sign : tie.Need-shared-slice-read-is-sign
-shared-slice-read-is-sign c = search needs
-
-is-sign-requires : tie.Need-is-sign-requires
-is-sign-requires c κs = search needs
-
-add-result : tie.Need-add-result
-add-result c = search needs
-
 returns-2 : tie.Need-returns-2
 returns-2 c = law.sign-is (c .before .before .before .if1 .left) (sym (c .before .is-sign .ensures) ∙ (c .if2 .taken))
 
@@ -26,4 +17,4 @@ returns-3 c = law.sign-other (c .before .before .before .if1 .left) (sym (c .bef
 pub skip-sign-spec : {M : Type 1} → statement M
 skip-sign-spec =
     tie.close
-    (tie.spec returns shared-slice-read-is-sign is-sign-requires add-result returns-2 returns-3)
+    (tie.spec returns (λ c. search needs) (λ c κs. search needs) (λ c. search needs) returns-2 returns-3)

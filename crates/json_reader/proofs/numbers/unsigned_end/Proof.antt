@@ -5,26 +5,11 @@ use borrow.Author.Needs.{needs}
 use Rattle.json_reader.proofs.numbers.unsigned_end.Statement.{statement}
 use Rattle.json_reader.proofs.numbers.unsigned_end.Tie as tie
 
-int-end-requires : tie.Need-int-end-requires
-int-end-requires c κs = search needs
-
-enum-known-f : tie.Need-enum-known-f
-enum-known-f c = search needs
-
 frac-end-requires : tie.Need-frac-end-requires
 frac-end-requires c κs = bounds (ended (c .before .f .given .1) (c .before .before .before .int-end .ensures)) .1
 
-enum-known-x : tie.Need-enum-known-x
-enum-known-x c = search needs
-
 exp-end-requires : tie.Need-exp-end-requires
 exp-end-requires c κs = bounds (ended (c .before .x .given .1) (c .before .before .before .frac-end .ensures)) .1
-
-enum-told : tie.Need-enum-told
-enum-told c = search needs
-
-enum-told-2 : tie.Need-enum-told-2
-enum-told-2 c = search needs
 
 returns : tie.Need-returns
 returns c = law.unsigned-is (ended (c .before .before .before .before .before .before .f .given .1) (c .before .before .before .before .before .before .before .before .int-end .ensures)) (ended (c .before .before .x .given .1) (c .before .before .before .before .frac-end .ensures)) (c .exp-end .ensures)
@@ -39,13 +24,11 @@ pub unsigned-end-spec : {M : Type 1} → statement M
 unsigned-end-spec =
     tie.close
     (tie.spec
-    int-end-requires
-    enum-known-f
+    (λ c κs. search needs) (λ c. search needs)
     frac-end-requires
-    enum-known-x
+    (λ c. search needs)
     exp-end-requires
-    enum-told
-    enum-told-2
+    (λ c. search needs) (λ c. search needs)
     returns
     returns-2
     returns-3)

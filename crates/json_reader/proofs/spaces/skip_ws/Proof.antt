@@ -18,18 +18,6 @@ abbrev μ-loop : tie.MeasureT-loop
 loop-holds : tie.Need-loop-holds Inv-loop μ-loop
 loop-holds c = skip-start (c .before .pre)
 
-shared-slice-read-is-ws : tie.Need-shared-slice-read-is-ws Inv-loop μ-loop
-shared-slice-read-is-ws c = omega arith
-
-is-ws-requires : tie.Need-is-ws-requires Inv-loop μ-loop
-is-ws-requires c κs = search needs
-
-add-at : tie.Need-add-at Inv-loop μ-loop
-add-at c = omega arith
-
-loop-less : tie.Need-loop-less Inv-loop μ-loop
-loop-less c = omega arith
-
 loop-again : tie.Need-loop-again Inv-loop μ-loop
 loop-again c = skip-more (c .before .before .before .before .loop .inv) (c .before .before .before .loop-test .taken) (sym (c .before .is-ws .ensures) ∙ c .if1 .taken)
 
@@ -46,10 +34,7 @@ skip-ws-spec =
     Inv-loop
     μ-loop
     loop-holds
-    shared-slice-read-is-ws
-    is-ws-requires
-    add-at
-    loop-less
+    (λ c. omega arith) (λ c κs. search needs) (λ c. omega arith) (λ c. omega arith)
     loop-again
     returns
     returns-2)

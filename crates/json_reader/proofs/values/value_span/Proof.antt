@@ -6,35 +6,14 @@ use borrow.Author.Needs.{needs}
 use Rattle.json_reader.proofs.values.value_span.Statement.{statement}
 use Rattle.json_reader.proofs.values.value_span.Tie as tie
 
-skip-ws-requires : tie.Need-skip-ws-requires
-skip-ws-requires c κs = search needs
-
 returns : tie.Need-returns
 returns c = law.span-none _ (cycle.colon-out _ (c .before .skip-ws .ensures) (c .if1 .taken))
-
-shared-slice-read-if2 : tie.Need-shared-slice-read-if2
-shared-slice-read-if2 c = search needs
 
 returns-2 : tie.Need-returns-2
 returns-2 c = law.span-none _ (cycle.colon-other _ (c .before .before .before .skip-ws .ensures) (c .before .before .if1 .left) (c .if2 .taken))
 
-add-skip-ws : tie.Need-add-skip-ws
-add-skip-ws c = search needs
-
-skip-ws-requires-2 : tie.Need-skip-ws-requires-2
-skip-ws-requires-2 c κs = search needs
-
 returns-3 : tie.Need-returns-3
 returns-3 c = law.span-none _ (cycle.colon-is _ (c .before .before .before .before .before .skip-ws .ensures) (c .before .before .before .before .if1 .left) (c .before .before .if2 .left) (cycle.value-out _ (c .before .skip-ws2 .ensures) (c .if3 .taken)))
-
-bare-requires : tie.Need-bare-requires
-bare-requires c κs = search needs
-
-enum-known-to : tie.Need-enum-known-to
-enum-known-to c = search needs
-
-enum-told : tie.Need-enum-told
-enum-told c = search needs
 
 returns-4 : tie.Need-returns-4
 returns-4 c = law.span-is _ (c .before .before .before .before .before .before .before .before .before .skip-ws .ensures) (c .before .before .before .before .before .before .before .before .if1 .left) (c .before .before .before .before .before .before .if2 .left) (c .before .before .before .before .before .skip-ws2 .ensures) (c .before .before .before .before .if3 .left) (ended (c .before .to .given .1) (c .before .before .before .bare .ensures))
@@ -46,15 +25,12 @@ pub value-span-spec : {M : Type 1} → statement M
 value-span-spec =
     tie.close
     (tie.spec
-    skip-ws-requires
+    (λ c κs. search needs)
     returns
-    shared-slice-read-if2
+    (λ c. search needs)
     returns-2
-    add-skip-ws
-    skip-ws-requires-2
+    (λ c. search needs) (λ c κs. search needs)
     returns-3
-    bare-requires
-    enum-known-to
-    enum-told
+    (λ c κs. search needs) (λ c. search needs) (λ c. search needs)
     returns-4
     returns-5)

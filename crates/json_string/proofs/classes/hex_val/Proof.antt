@@ -4,14 +4,8 @@ use Rattle.json_string.proofs.ClassLaws.{digit-low, digit-val, letter-l
 use Rattle.json_string.proofs.classes.hex_val.Statement.{statement}
 use Rattle.json_string.proofs.classes.hex_val.Tie as tie
 
-between-requires : tie.Need-between-requires
-between-requires c κs = tt
-
 sub-wide : tie.Need-sub-wide
 sub-wide c = digit-low _ (sym (c .before .between .ensures) ∙ c .if1 .taken)
-
-wide-requires : tie.Need-wide-requires
-wide-requires c κs = tt
 
 returns : tie.Need-returns
 returns c = digit-val _ _ (sym (c .before .before .between .ensures) ∙ c .before .if1 .taken) (c .wide .ensures .0)
@@ -19,13 +13,10 @@ returns c = digit-val _ _ (sym (c .before .before .between .ensures) ∙ c .befo
 sub-wide-2 : tie.Need-sub-wide-2
 sub-wide-2 c = letter-low _ (c .before .before .pre) (sym (c .before .between .ensures) ∙ c .if1 .left)
 
-wide-requires-2 : tie.Need-wide-requires-2
-wide-requires-2 c κs = tt
-
 returns-2 : tie.Need-returns-2
 returns-2 c = letter-val _ _ (c .before .before .before .pre) (sym (c .before .before .between .ensures) ∙ c .before .if1 .left) (c .wide2 .ensures .0)
 
 pub hex-val-spec : {M : Type 1} → statement M
 hex-val-spec =
     tie.close
-    (tie.spec between-requires sub-wide wide-requires returns sub-wide-2 wide-requires-2 returns-2)
+    (tie.spec (λ c κs. tt) sub-wide (λ c κs. tt) returns sub-wide-2 (λ c κs. tt) returns-2)

@@ -4,17 +4,11 @@ use Rattle.json_string.proofs.ClassLaws.{hex-1, hex-2}
 use Rattle.json_string.proofs.classes.is_hex.Statement.{statement}
 use Rattle.json_string.proofs.classes.is_hex.Tie as tie
 
-between-requires : tie.Need-between-requires
-between-requires c κs = tt
-
 returns : tie.Need-returns
 returns c = hex-1 _ (sym (c .before .between .ensures) ∙ c .if1 .taken)
-
-between-requires-2 : tie.Need-between-requires-2
-between-requires-2 c κs = tt
 
 returns-2 : tie.Need-returns-2
 returns-2 c = c .between2 .ensures ∙ hex-2 _ (sym (c .before .before .between .ensures) ∙ c .before .if1 .left)
 
 pub is-hex-spec : {M : Type 1} → statement M
-is-hex-spec = tie.close (tie.spec between-requires returns between-requires-2 returns-2)
+is-hex-spec = tie.close (tie.spec (λ c κs. tt) returns (λ c κs. tt) returns-2)

@@ -4,20 +4,11 @@ use Rattle.json_string.proofs.ClassLaws.{unescaped-1, unescaped-2, unes
 use Rattle.json_string.proofs.classes.is_unescaped1.Statement.{statement}
 use Rattle.json_string.proofs.classes.is_unescaped1.Tie as tie
 
-between-requires : tie.Need-between-requires
-between-requires c κs = tt
-
 returns : tie.Need-returns
 returns c = unescaped-1 _ (sym (c .before .between .ensures) ∙ c .if1 .taken)
 
-between-requires-2 : tie.Need-between-requires-2
-between-requires-2 c κs = tt
-
 returns-2 : tie.Need-returns-2
 returns-2 c = unescaped-2 _ (sym (c .before .between2 .ensures) ∙ c .if2 .taken)
-
-between-requires-3 : tie.Need-between-requires-3
-between-requires-3 c κs = tt
 
 returns-3 : tie.Need-returns-3
 returns-3 c = c .between3 .ensures ∙ unescaped-3 _ (sym (c .before .before .before .before .between .ensures) ∙ c .before .before .before .if1 .left) (sym (c .before .before .between2 .ensures) ∙ c .before .if2 .left)
@@ -25,4 +16,4 @@ returns-3 c = c .between3 .ensures ∙ unescaped-3 _ (sym (c .before .before .be
 pub is-unescaped1-spec : {M : Type 1} → statement M
 is-unescaped1-spec =
     tie.close
-    (tie.spec between-requires returns between-requires-2 returns-2 between-requires-3 returns-3)
+    (tie.spec (λ c κs. tt) returns (λ c κs. tt) returns-2 (λ c κs. tt) returns-3)

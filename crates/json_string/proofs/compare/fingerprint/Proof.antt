@@ -16,27 +16,6 @@ Inv-loop s p at₀ h₀ at h = mixedAt s at h ≡ fingerprintAt s p
 abbrev μ-loop : tie.MeasureT-loop
 μ-loop s p at₀ h₀ at h = length s - at
 
-loop-holds : tie.Need-loop-holds Inv-loop μ-loop
-loop-holds c = refl
-
-shared-slice-read-b : tie.Need-shared-slice-read-b Inv-loop μ-loop
-shared-slice-read-b c = omega arith
-
-is-unescaped1-requires : tie.Need-is-unescaped1-requires Inv-loop μ-loop
-is-unescaped1-requires c κs = tt
-
-wide-requires : tie.Need-wide-requires Inv-loop μ-loop
-wide-requires c κs = tt
-
-mixed-requires : tie.Need-mixed-requires Inv-loop μ-loop
-mixed-requires c κs = tt
-
-add-at : tie.Need-add-at Inv-loop μ-loop
-add-at c = omega arith
-
-loop-less : tie.Need-loop-less Inv-loop μ-loop
-loop-less c = omega arith
-
 loop-again : tie.Need-loop-again Inv-loop μ-loop
 loop-again c = mixed-plain _ _ _ (c .before .before .before .before .before .loop-test .taken) _ _ (sym (c .before .before .before .is-unescaped1 .ensures) ∙ c .before .before .if1 .taken) (c .before .wide .ensures .0) (c .mixed .ensures) ∙ c .before .before .before .before .before .before .loop .inv
 
@@ -46,17 +25,8 @@ returns c = mixed-quote _ _ _ (c .before .before .before .before .loop-test .tak
 char-at-requires : tie.Need-char-at-requires Inv-loop μ-loop
 char-at-requires c κs = c .before .before .before .before .loop-test .taken
 
-enum-known-c : tie.Need-enum-known-c Inv-loop μ-loop
-enum-known-c c = search needs
-
-enum-told : tie.Need-enum-told Inv-loop μ-loop
-enum-told c = search needs
-
 returns-2 : tie.Need-returns-2 Inv-loop μ-loop
 returns-2 c = mixed-none _ _ _ (text-wrong _ _ (c .before .before .before .before .before .before .before .loop-test .taken) (c .before .before .before .if2 .left) (scanned _ _ _ _ (c .before .before .char-at .ensures) (c .enum-told .given .1))) ∙ c .before .before .before .before .before .before .before .before .loop .inv
-
-mixed-requires-2 : tie.Need-mixed-requires-2 Inv-loop μ-loop
-mixed-requires-2 c κs = tt
 
 loop-less-2 : tie.Need-loop-less-2 Inv-loop μ-loop
 loop-less-2 c = omega (arith, c .before .before .before .before .before .before .before .before .before .loop-test .taken, char-after _ _ _ _ (scanned _ _ _ _ (c .before .before .before .before .char-at .ensures) (c .before .before .c .given .1)))
@@ -73,20 +43,13 @@ fingerprint-spec =
     (tie.spec
     Inv-loop
     μ-loop
-    loop-holds
-    shared-slice-read-b
-    is-unescaped1-requires
-    wide-requires
-    mixed-requires
-    add-at
-    loop-less
+    (λ c. refl) (λ c. omega arith) (λ c κs. tt) (λ c κs. tt) (λ c κs. tt) (λ c. omega arith) (λ c. omega arith)
     loop-again
     returns
     char-at-requires
-    enum-known-c
-    enum-told
+    (λ c. search needs) (λ c. search needs)
     returns-2
-    mixed-requires-2
+    (λ c κs. tt)
     loop-less-2
     loop-again-2
     returns-3)

@@ -16,43 +16,16 @@ Inv-loop s p q i₀ j₀ i j = sameText s i j ≡ sameText s p q
 abbrev μ-loop : tie.MeasureT-loop
 μ-loop s p q i₀ j₀ i j = length s - i
 
-loop-holds : tie.Need-loop-holds Inv-loop μ-loop
-loop-holds c = refl
-
-shared-slice-read-a : tie.Need-shared-slice-read-a Inv-loop μ-loop
-shared-slice-read-a c = omega arith
-
-shared-slice-read-b : tie.Need-shared-slice-read-b Inv-loop μ-loop
-shared-slice-read-b c = omega arith
-
 returns : tie.Need-returns Inv-loop μ-loop
 returns c = same-quote-i _ _ _ (c .before .before .before .before .loop-test .taken) (c .before .before .before .if1 .taken) (c .if2 .taken) ∙ c .before .before .before .before .before .loop .inv
 
 returns-2 : tie.Need-returns-2 Inv-loop μ-loop
 returns-2 c = same-quote-j _ _ _ (c .before .before .before .before .before .loop-test .taken) (c .before .before .before .before .if1 .taken) (c .before .if2 .left) (c .if3 .taken) ∙ c .before .before .before .before .before .before .loop .inv
 
-char-at-requires : tie.Need-char-at-requires Inv-loop μ-loop
-char-at-requires c κs = omega arith
-
-enum-known-x : tie.Need-enum-known-x Inv-loop μ-loop
-enum-known-x c = search needs
-
-enum-told : tie.Need-enum-told Inv-loop μ-loop
-enum-told c = search needs
-
 returns-3 : tie.Need-returns-3 Inv-loop μ-loop
 returns-3 c =
     let e = c .before .before .before in
     same-none-i _ _ _ (text-wrong _ _ (e .before .before .before .before .before .loop-test .taken) (e .before .if2 .left) (scanned _ _ _ _ (c .before .before .char-at .ensures) (c .enum-told .given .1))) ∙ e .before .before .before .before .before .before .loop .inv
-
-char-at-requires-2 : tie.Need-char-at-requires-2 Inv-loop μ-loop
-char-at-requires-2 c κs = omega arith
-
-enum-known-y : tie.Need-enum-known-y Inv-loop μ-loop
-enum-known-y c = search needs
-
-enum-told-2 : tie.Need-enum-told-2 Inv-loop μ-loop
-enum-told-2 c = search needs
 
 returns-4 : tie.Need-returns-4 Inv-loop μ-loop
 returns-4 c =
@@ -86,18 +59,12 @@ same-text-spec =
     (tie.spec
     Inv-loop
     μ-loop
-    loop-holds
-    shared-slice-read-a
-    shared-slice-read-b
+    (λ c. refl) (λ c. omega arith) (λ c. omega arith)
     returns
     returns-2
-    char-at-requires
-    enum-known-x
-    enum-told
+    (λ c κs. omega arith) (λ c. search needs) (λ c. search needs)
     returns-3
-    char-at-requires-2
-    enum-known-y
-    enum-told-2
+    (λ c κs. omega arith) (λ c. search needs) (λ c. search needs)
     returns-4
     loop-less
     loop-again

@@ -28,23 +28,11 @@ returns c = is-quote _ _ _ _ (c .before .before .loop-test .taken) (c .if1 .take
 char-at-requires : tie.Need-char-at-requires Inv-loop μ-loop
 char-at-requires c κs = c .before .before .loop-test .taken
 
-enum-known-c : tie.Need-enum-known-c Inv-loop μ-loop
-enum-known-c c = search needs
-
-enum-told : tie.Need-enum-told Inv-loop μ-loop
-enum-told c = search needs
-
 returns-2 : tie.Need-returns-2 Inv-loop μ-loop
 returns-2 c = is-none _ _ _ (text-wrong _ _ (c .before .before .before .before .before .loop-test .taken) (c .before .before .before .if1 .left) (scanned _ _ _ _ (c .before .before .char-at .ensures) (c .enum-told .given .1))) ∙ c .before .before .before .before .before .before .loop .inv .1
 
 octets-end-requires : tie.Need-octets-end-requires Inv-loop μ-loop
 octets-end-requires c κs = (omega arith, char-most _ _ _ _ (scanned _ _ _ _ (c .before .before .before .char-at .ensures) (c .before .c .given .1)))
-
-enum-known-e : tie.Need-enum-known-e Inv-loop μ-loop
-enum-known-e c = search needs
-
-enum-told-2 : tie.Need-enum-told-2 Inv-loop μ-loop
-enum-told-2 c = search needs
 
 returns-3 : tie.Need-returns-3 Inv-loop μ-loop
 returns-3 c = is-differ _ _ _ _ (c .before .before .before .before .before .before .before .before .before .loop-test .taken) (c .before .before .before .before .before .before .before .if1 .left) _ _ (scanned _ _ _ _ (c .before .before .before .before .before .before .char-at .ensures) (c .before .before .before .before .c .given .1)) (word-ended _ _ _ _ _ (c .before .before .octets-end .ensures) (c .enum-told2 .given .1)) ∙ c .before .before .before .before .before .before .before .before .before .before .loop .inv .1
@@ -71,12 +59,10 @@ text-is-spec =
     shared-slice-read-if1
     returns
     char-at-requires
-    enum-known-c
-    enum-told
+    (λ c. search needs) (λ c. search needs)
     returns-2
     octets-end-requires
-    enum-known-e
-    enum-told-2
+    (λ c. search needs) (λ c. search needs)
     returns-3
     loop-less
     loop-again

@@ -7,17 +7,8 @@ use Rattle.json_string.proofs.escapes.escape.Tie as tie
 shared-slice-read-b : tie.Need-shared-slice-read-b
 shared-slice-read-b c = c .before .if1 .taken
 
-add-unicode : tie.Need-add-unicode
-add-unicode c = omega arith
-
-unicode-requires : tie.Need-unicode-requires
-unicode-requires c κs = omega arith
-
 returns : tie.Need-returns
 returns c = escape-u _ _ _ (c .before .before .before .if1 .taken) (c .before .if2 .taken) (c .unicode .ensures)
-
-add-short : tie.Need-add-short
-add-short c = omega arith
 
 short-requires : tie.Need-short-requires
 short-requires c κs = c .if2 .left
@@ -33,10 +24,9 @@ escape-spec =
     tie.close
     (tie.spec
     shared-slice-read-b
-    add-unicode
-    unicode-requires
+    (λ c. omega arith) (λ c κs. omega arith)
     returns
-    add-short
+    (λ c. omega arith)
     short-requires
     returns-2
     returns-3)

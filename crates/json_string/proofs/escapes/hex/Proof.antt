@@ -23,9 +23,6 @@ loop-holds c = (omega arith, omega arith, λ r h. hex-digits _ _ r h)
 shared-slice-read-b : tie.Need-shared-slice-read-b Inv-loop μ-loop
 shared-slice-read-b c = c .before .if1 .taken
 
-is-hex-requires : tie.Need-is-hex-requires Inv-loop μ-loop
-is-hex-requires c κs = tt
-
 mul-code : tie.Need-mul-code Inv-loop μ-loop
 mul-code c = omega (arith, room-small 65536 16 (c .before .before .before .before .before .loop .left) _ (c .before .before .before .before .loop-test .taken) (c .before .before .before .before .before .loop .inv .1))
 
@@ -34,15 +31,6 @@ hex-val-requires c κs = sym (c .before .is-hex .ensures) ∙ c .if2 .taken
 
 add-code : tie.Need-add-code Inv-loop μ-loop
 add-code c = omega (arith, room-small 65536 16 (c .before .before .before .before .before .before .loop .left) _ (c .before .before .before .before .before .loop-test .taken) (c .before .before .before .before .before .before .loop .inv .1))
-
-add-at : tie.Need-add-at Inv-loop μ-loop
-add-at c = omega arith
-
-sub-left : tie.Need-sub-left Inv-loop μ-loop
-sub-left c = omega arith
-
-loop-less : tie.Need-loop-less Inv-loop μ-loop
-loop-less c = omega arith
 
 loop-again : tie.Need-loop-again Inv-loop μ-loop
 loop-again c =
@@ -69,13 +57,11 @@ hex-spec =
     μ-loop
     loop-holds
     shared-slice-read-b
-    is-hex-requires
+    (λ c κs. tt)
     mul-code
     hex-val-requires
     add-code
-    add-at
-    sub-left
-    loop-less
+    (λ c. omega arith) (λ c. omega arith) (λ c. omega arith)
     loop-again
     returns
     returns-2

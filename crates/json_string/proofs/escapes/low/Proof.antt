@@ -9,44 +9,17 @@ use borrow.Author.Needs.{needs}
 use Rattle.json_string.proofs.escapes.low.Statement.{statement}
 use Rattle.json_string.proofs.escapes.low.Tie as tie
 
-sub-if1 : tie.Need-sub-if1
-sub-if1 c = omega arith
-
 returns : tie.Need-returns
 returns c = low-short _ _ _ (c .if1 .taken)
-
-shared-slice-read-if2 : tie.Need-shared-slice-read-if2
-shared-slice-read-if2 c = omega arith
 
 returns-2 : tie.Need-returns-2
 returns-2 c = low-no-escape _ _ _ (omega (arith, c .before .before .if1 .left)) (c .if2 .taken)
 
-add-if3 : tie.Need-add-if3
-add-if3 c = omega arith
-
-shared-slice-read-if3 : tie.Need-shared-slice-read-if3
-shared-slice-read-if3 c = omega arith
-
 returns-3 : tie.Need-returns-3
 returns-3 c = low-no-u _ _ _ (omega (arith, c .before .before .before .before .if1 .left)) (c .before .before .if2 .left) (c .if3 .taken)
 
-add-hex : tie.Need-add-hex
-add-hex c = omega arith
-
-hex-requires : tie.Need-hex-requires
-hex-requires c κs = omega arith
-
-enum-known-x : tie.Need-enum-known-x
-enum-known-x c = search needs
-
-enum-told : tie.Need-enum-told
-enum-told c = search needs
-
 returns-4 : tie.Need-returns-4
 returns-4 c = low-no-hex _ _ _ (omega (arith, c .before .before .before .before .before .before .before .if1 .left)) (c .before .before .before .before .before .if2 .left) (c .before .before .before .if3 .left) (scanned readHex _ _ _ _ (c .before .before .hex .ensures) (c .enum-told .given .1))
-
-is-low-requires : tie.Need-is-low-requires
-is-low-requires c κs = tt
 
 sub-t14 : tie.Need-sub-t14
 sub-t14 c = pair-high _ (c .before .before .before .before .before .before .before .before .before .before .before .before .pre .1) .0
@@ -74,19 +47,15 @@ pub low-spec : {M : Type 1} → statement M
 low-spec =
     tie.close
     (tie.spec
-    sub-if1
+    (λ c. omega arith)
     returns
-    shared-slice-read-if2
+    (λ c. omega arith)
     returns-2
-    add-if3
-    shared-slice-read-if3
+    (λ c. omega arith) (λ c. omega arith)
     returns-3
-    add-hex
-    hex-requires
-    enum-known-x
-    enum-told
+    (λ c. omega arith) (λ c κs. omega arith) (λ c. search needs) (λ c. search needs)
     returns-4
-    is-low-requires
+    (λ c κs. tt)
     sub-t14
     mul-t15
     add-t16

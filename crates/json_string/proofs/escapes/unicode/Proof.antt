@@ -10,26 +10,14 @@ use Rattle.json_string.proofs.escapes.unicode.Tie as tie
 hex-requires : tie.Need-hex-requires
 hex-requires c κs = c .before .pre
 
-enum-known-x : tie.Need-enum-known-x
-enum-known-x c = search needs
-
-enum-told : tie.Need-enum-told
-enum-told c = search needs
-
 returns : tie.Need-returns
 returns c = unicode-no-hex _ _ (scanned readHex _ _ _ _ (c .before .before .hex .ensures) (c .enum-told .given .1))
-
-is-high-requires : tie.Need-is-high-requires
-is-high-requires c κs = tt
 
 low-requires : tie.Need-low-requires
 low-requires c κs = (scan-after readHex _ _ _ _ (scanned readHex _ _ _ _ (c .before .before .before .before .before .hex .ensures) (c .before .before .before .x .given .1)) .1, sym (c .before .is-high .ensures) ∙ c .if1 .taken)
 
 returns-2 : tie.Need-returns-2
 returns-2 c = unicode-high _ _ _ _ (scanned readHex _ _ _ _ (c .before .before .before .before .before .before .hex .ensures) (c .before .before .before .before .x .given .1)) _ (sym (c .before .before .is-high .ensures) ∙ c .before .if1 .taken) (c .low .ensures)
-
-is-low-requires : tie.Need-is-low-requires
-is-low-requires c κs = tt
 
 returns-3 : tie.Need-returns-3
 returns-3 c = unicode-low _ _ _ _ (scanned readHex _ _ _ _ (c .before .before .before .before .before .before .before .hex .ensures) (c .before .before .before .before .before .x .given .1)) (sym (c .before .before .before .is-high .ensures) ∙ c .before .before .if1 .left) (sym (c .before .is-low .ensures) ∙ c .if2 .taken)
@@ -42,12 +30,11 @@ unicode-spec =
     tie.close
     (tie.spec
     hex-requires
-    enum-known-x
-    enum-told
+    (λ c. search needs) (λ c. search needs)
     returns
-    is-high-requires
+    (λ c κs. tt)
     low-requires
     returns-2
-    is-low-requires
+    (λ c κs. tt)
     returns-3
     returns-4)

@@ -37,12 +37,6 @@ returns c = c .before .before .before .loop .inv .1 _ _ (writes-quote _ _ (c .be
 char-at-requires : tie.Need-char-at-requires Inv-loop μ-loop
 char-at-requires c κs = c .before .before .loop-test .taken
 
-enum-known-c : tie.Need-enum-known-c Inv-loop μ-loop
-enum-known-c c = search needs
-
-enum-told : tie.Need-enum-told Inv-loop μ-loop
-enum-told c = search needs
-
 same-length-2 : tie.Need-same-length-2 Inv-loop μ-loop
 same-length-2 c = c .before .before .before .before .before .before .loop .inv .0 .same
 
@@ -105,8 +99,7 @@ write-spec =
     same-length
     returns
     char-at-requires
-    enum-known-c
-    enum-told
+    (λ c. search needs) (λ c. search needs)
     same-length-2
     returns-2
     octets-of-requires

@@ -8,29 +8,11 @@ use Rattle.json_string.proofs.strings.char_at.Tie as tie
 shared-slice-read-b : tie.Need-shared-slice-read-b
 shared-slice-read-b c = c .before .before .pre
 
-is-unescaped1-requires : tie.Need-is-unescaped1-requires
-is-unescaped1-requires c κs = tt
-
-wide-requires : tie.Need-wide-requires
-wide-requires c κs = tt
-
-add-t8 : tie.Need-add-t8
-add-t8 c = omega arith
-
 returns : tie.Need-returns
 returns c = char-plain _ _ (c .before .before .before .before .before .pre) _ (sym (c .before .before .is-unescaped1 .ensures) ∙ c .before .if1 .taken) (c .wide .ensures .0)
 
-add-escape : tie.Need-add-escape
-add-escape c = omega arith
-
-escape-requires : tie.Need-escape-requires
-escape-requires c κs = omega arith
-
 returns-2 : tie.Need-returns-2
 returns-2 c = char-escape _ _ (c .before .before .before .before .before .before .pre) _ (c .before .if2 .taken) (c .escape .ensures)
-
-add-form : tie.Need-add-form
-add-form c = omega arith
 
 form-requires : tie.Need-form-requires
 form-requires c κs = (omega arith, sym (c .before .before .is-unescaped1 .ensures) ∙ c .before .if1 .left, c .if2 .left)
@@ -43,13 +25,10 @@ char-at-spec =
     tie.close
     (tie.spec
     shared-slice-read-b
-    is-unescaped1-requires
-    wide-requires
-    add-t8
+    (λ c κs. tt) (λ c κs. tt) (λ c. omega arith)
     returns
-    add-escape
-    escape-requires
+    (λ c. omega arith) (λ c κs. omega arith)
     returns-2
-    add-form
+    (λ c. omega arith)
     form-requires
     returns-3)

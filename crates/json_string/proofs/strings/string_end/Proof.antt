@@ -22,32 +22,14 @@ loop-holds c = (omega arith, λ r h. h)
 shared-slice-read-b : tie.Need-shared-slice-read-b Inv-loop μ-loop
 shared-slice-read-b c = c .before .loop-test .taken
 
-is-unescaped1-requires : tie.Need-is-unescaped1-requires Inv-loop μ-loop
-is-unescaped1-requires c κs = tt
-
-add-at : tie.Need-add-at Inv-loop μ-loop
-add-at c = omega arith
-
-loop-less : tie.Need-loop-less Inv-loop μ-loop
-loop-less c = omega arith
-
 loop-again : tie.Need-loop-again Inv-loop μ-loop
 loop-again c = (omega arith, λ r h. c .before .before .before .before .loop .inv .1 r (string-plain _ _ (c .before .before .before .loop-test .taken) r (sym (c .before .is-unescaped1 .ensures) ∙ c .if1 .taken) h))
-
-add-t12 : tie.Need-add-t12 Inv-loop μ-loop
-add-t12 c = omega arith
 
 returns : tie.Need-returns Inv-loop μ-loop
 returns c = c .before .before .before .before .before .loop .inv .1 _ (string-quote _ _ (c .before .before .before .before .loop-test .taken) (c .if2 .taken))
 
 char-at-requires : tie.Need-char-at-requires Inv-loop μ-loop
 char-at-requires c κs = c .before .before .before .before .loop-test .taken
-
-enum-known-next : tie.Need-enum-known-next Inv-loop μ-loop
-enum-known-next c = search needs
-
-enum-told : tie.Need-enum-told Inv-loop μ-loop
-enum-told c = search needs
 
 returns-2 : tie.Need-returns-2 Inv-loop μ-loop
 returns-2 c = c .before .before .before .before .before .before .before .before .loop .inv .1 _ (string-wrong _ _ (c .before .before .before .before .before .before .before .loop-test .taken) (c .before .before .before .if2 .left) (scanned _ _ _ _ (c .before .before .char-at .ensures) (c .enum-told .given .1)))
@@ -69,15 +51,12 @@ string-end-spec =
     μ-loop
     loop-holds
     shared-slice-read-b
-    is-unescaped1-requires
-    add-at
-    loop-less
+    (λ c κs. tt) (λ c. omega arith) (λ c. omega arith)
     loop-again
-    add-t12
+    (λ c. omega arith)
     returns
     char-at-requires
-    enum-known-next
-    enum-told
+    (λ c. search needs) (λ c. search needs)
     returns-2
     loop-less-2
     loop-again-2

@@ -5,14 +5,8 @@ use Rattle.json_string.proofs.FormLaws.{lead-low, lead-bits, form-two, 
 use Rattle.json_string.proofs.utf8.form.Statement.{statement}
 use Rattle.json_string.proofs.utf8.form.Tie as tie
 
-between-requires : tie.Need-between-requires
-between-requires c κs = tt
-
 sub-wide : tie.Need-sub-wide
 sub-wide c = lead-low 0xC0 _ _ _ (lit≤ tt) (sym (c .before .between .ensures) ∙ c .if1 .taken)
-
-wide-requires : tie.Need-wide-requires
-wide-requires c κs = tt
 
 tails-requires : tie.Need-tails-requires
 tails-requires c κs = (c .before .before .before .before .pre .0, lit≤ tt, lit≤ tt, lit≤ tt, lead-bits 0xC0 _ _ _ _ (lit< tt) (sym (c .before .before .between .ensures) ∙ c .before .if1 .taken) (c .wide .ensures .0))
@@ -32,14 +26,8 @@ tails-requires-3 c κs = (c .before .before .before .before .before .pre .0, lit
 returns-3 : tie.Need-returns-3
 returns-3 c = form-ED _ _ _ _ (c .before .if3 .taken) (c .tails3 .ensures)
 
-between-requires-2 : tie.Need-between-requires-2
-between-requires-2 c κs = tt
-
 sub-wide-2 : tie.Need-sub-wide-2
 sub-wide-2 c = lead-low 0xE0 _ _ _ (lit≤ tt) (sym (c .before .between2 .ensures) ∙ c .if4 .taken)
-
-wide-requires-2 : tie.Need-wide-requires-2
-wide-requires-2 c κs = tt
 
 tails-requires-4 : tie.Need-tails-requires-4
 tails-requires-4 c κs = (c .before .before .before .before .before .before .before .before .pre .0, lit≤ tt, lit≤ tt, lit≤ tt, lead-bits 0xE0 _ _ _ _ (lit< tt) (sym (c .before .before .between2 .ensures) ∙ c .before .if4 .taken) (c .wide2 .ensures .0))
@@ -59,14 +47,8 @@ tails-requires-6 c κs = (c .before .before .before .before .before .before .bef
 returns-6 : tie.Need-returns-6
 returns-6 c = form-F4 _ _ _ _ (c .before .if6 .taken) (c .tails6 .ensures)
 
-between-requires-3 : tie.Need-between-requires-3
-between-requires-3 c κs = tt
-
 sub-wide-3 : tie.Need-sub-wide-3
 sub-wide-3 c = lead-low 0xF0 _ _ _ (lit≤ tt) (sym (c .before .between3 .ensures) ∙ c .if7 .taken)
-
-wide-requires-3 : tie.Need-wide-requires-3
-wide-requires-3 c κs = tt
 
 tails-requires-7 : tie.Need-tails-requires-7
 tails-requires-7 c κs = (c .before .before .before .before .before .before .before .before .before .before .before .before .pre .0, lit≤ tt, lit≤ tt, lit≤ tt, lead-bits 0xF0 _ _ _ _ (lit< tt) (sym (c .before .before .between3 .ensures) ∙ c .before .if7 .taken) (c .wide3 .ensures .0))
@@ -81,27 +63,27 @@ pub form-spec : {M : Type 1} → statement M
 form-spec =
     tie.close
     (tie.spec
-    between-requires
+    (λ c κs. tt)
     sub-wide
-    wide-requires
+    (λ c κs. tt)
     tails-requires
     returns
     tails-requires-2
     returns-2
     tails-requires-3
     returns-3
-    between-requires-2
+    (λ c κs. tt)
     sub-wide-2
-    wide-requires-2
+    (λ c κs. tt)
     tails-requires-4
     returns-4
     tails-requires-5
     returns-5
     tails-requires-6
     returns-6
-    between-requires-3
+    (λ c κs. tt)
     sub-wide-3
-    wide-requires-3
+    (λ c κs. tt)
     tails-requires-7
     returns-7
     returns-8)

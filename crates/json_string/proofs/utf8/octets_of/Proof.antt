@@ -6,53 +6,14 @@ use Rattle.json_string.proofs.OctetLaws.{one-octet, two-octets, three-o
 use Rattle.json_string.proofs.utf8.octets_of.Statement.{statement}
 use Rattle.json_string.proofs.utf8.octets_of.Tie as tie
 
-octet-requires : tie.Need-octet-requires
-octet-requires c κs = omega arith
-
 returns : tie.Need-returns
 returns c = let e = one-octet _ _ (c .before .if1 .taken) (c .octet .ensures) in record { few = omega arith; long = ap length e; are = e }
-
-add-octet : tie.Need-add-octet
-add-octet c = omega arith
-
-octet-requires-2 : tie.Need-octet-requires-2
-octet-requires-2 c κs = omega arith
-
-tail-octet-requires : tie.Need-tail-octet-requires
-tail-octet-requires c κs = tt
 
 returns-2 : tie.Need-returns-2
 returns-2 c = let e = two-octets _ _ _ (c .before .before .before .if1 .left) (c .before .before .if2 .taken) (c .before .octet2 .ensures) (c .tail-octet .ensures) in record { few = omega arith; long = ap length e; are = e }
 
-add-octet-2 : tie.Need-add-octet-2
-add-octet-2 c = omega arith
-
-octet-requires-3 : tie.Need-octet-requires-3
-octet-requires-3 c κs = omega arith
-
-tail-octet-requires-2 : tie.Need-tail-octet-requires-2
-tail-octet-requires-2 c κs = tt
-
-tail-octet-requires-3 : tie.Need-tail-octet-requires-3
-tail-octet-requires-3 c κs = tt
-
 returns-3 : tie.Need-returns-3
 returns-3 c = let e = three-octets _ _ _ _ (c .before .before .before .before .if2 .left) (c .before .before .before .if3 .taken) (c .before .before .octet3 .ensures) (c .before .tail-octet2 .ensures) (c .tail-octet3 .ensures) in record { few = omega arith; long = ap length e; are = e }
-
-add-octet-3 : tie.Need-add-octet-3
-add-octet-3 c = omega arith
-
-octet-requires-4 : tie.Need-octet-requires-4
-octet-requires-4 c κs = omega arith
-
-tail-octet-requires-4 : tie.Need-tail-octet-requires-4
-tail-octet-requires-4 c κs = tt
-
-tail-octet-requires-5 : tie.Need-tail-octet-requires-5
-tail-octet-requires-5 c κs = tt
-
-tail-octet-requires-6 : tie.Need-tail-octet-requires-6
-tail-octet-requires-6 c κs = tt
 
 returns-4 : tie.Need-returns-4
 returns-4 c = let e = four-octets _ _ _ _ _ (c .before .before .before .before .if3 .left) (c .before .before .before .octet4 .ensures) (c .before .before .tail-octet4 .ensures) (c .before .tail-octet5 .ensures) (c .tail-octet6 .ensures) in record { few = omega arith; long = ap length e; are = e }
@@ -61,20 +22,11 @@ pub octets-of-spec : {M : Type 1} → statement M
 octets-of-spec =
     tie.close
     (tie.spec
-    octet-requires
+    (λ c κs. omega arith)
     returns
-    add-octet
-    octet-requires-2
-    tail-octet-requires
+    (λ c. omega arith) (λ c κs. omega arith) (λ c κs. tt)
     returns-2
-    add-octet-2
-    octet-requires-3
-    tail-octet-requires-2
-    tail-octet-requires-3
+    (λ c. omega arith) (λ c κs. omega arith) (λ c κs. tt) (λ c κs. tt)
     returns-3
-    add-octet-3
-    octet-requires-4
-    tail-octet-requires-4
-    tail-octet-requires-5
-    tail-octet-requires-6
+    (λ c. omega arith) (λ c κs. omega arith) (λ c κs. tt) (λ c κs. tt) (λ c κs. tt)
     returns-4)

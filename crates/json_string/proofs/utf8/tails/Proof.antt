@@ -26,29 +26,14 @@ loop-holds c = (c .before .pre .0, c .before .pre .2, c .before .pre .3, room-le
 shared-slice-read-c : tie.Need-shared-slice-read-c Inv-loop μ-loop
 shared-slice-read-c c = c .before .if1 .taken
 
-between-requires : tie.Need-between-requires Inv-loop μ-loop
-between-requires c κs = tt
-
 mul-code : tie.Need-mul-code Inv-loop μ-loop
 mul-code c = omega (arith, room-small 8388608 64 (c .before .before .before .before .before .loop .left) _ (c .before .before .before .before .loop-test .taken) (c .before .before .before .before .before .loop .inv .3))
 
 sub-wide : tie.Need-sub-wide Inv-loop μ-loop
 sub-wide c = omega (arith, within-true _ _ _ (sym (c .before .between .ensures) ∙ c .if2 .taken))
 
-wide-requires : tie.Need-wide-requires Inv-loop μ-loop
-wide-requires c κs = tt
-
 add-code : tie.Need-add-code Inv-loop μ-loop
 add-code c = omega (arith, room-small 8388608 64 (c .before .before .before .before .before .before .loop .left) _ (c .before .before .before .before .before .loop-test .taken) (c .before .before .before .before .before .before .loop .inv .3), tail-bits _ _ _ _ (sym (c .before .before .between .ensures) ∙ c .before .if2 .taken) (c .before .before .before .before .before .before .loop .inv .1) (c .before .before .before .before .before .before .loop .inv .2) (c .wide .ensures .0))
-
-add-at : tie.Need-add-at Inv-loop μ-loop
-add-at c = omega arith
-
-sub-left : tie.Need-sub-left Inv-loop μ-loop
-sub-left c = omega arith
-
-loop-less : tie.Need-loop-less Inv-loop μ-loop
-loop-less c = omega arith
 
 loop-again : tie.Need-loop-again Inv-loop μ-loop
 loop-again c =
@@ -77,14 +62,12 @@ tails-spec =
     μ-loop
     loop-holds
     shared-slice-read-c
-    between-requires
+    (λ c κs. tt)
     mul-code
     sub-wide
-    wide-requires
+    (λ c κs. tt)
     add-code
-    add-at
-    sub-left
-    loop-less
+    (λ c. omega arith) (λ c. omega arith) (λ c. omega arith)
     loop-again
     returns
     returns-2

@@ -3,8 +3,5 @@ use mathlib.Core.Path.{refl}
 use Rattle.jws.proofs.judging.acceptance.Statement.{statement}
 use Rattle.jws.proofs.judging.acceptance.Tie as tie
 
-returns : tie.Need-returns
-returns c = refl
-
 pub acceptance-spec : {M : Type 1} → statement M
-acceptance-spec = tie.close (tie.spec returns)
+acceptance-spec = tie.close (tie.spec (λ c. refl))

@@ -8,18 +8,6 @@ use Rattle.jws.proofs.JudgeLaws as law
 use Rattle.jws.proofs.judging.conclude.Statement.{statement}
 use Rattle.jws.proofs.judging.conclude.Tie as tie
 
-secret-requires : tie.Need-secret-requires
-secret-requires c κs = search needs
-
-hmac-sha256-requires : tie.Need-hmac-sha256-requires
-hmac-sha256-requires c κs = search needs
-
-is-mac-requires : tie.Need-is-mac-requires
-is-mac-requires c κs = search needs
-
-acceptance-requires : tie.Need-acceptance-requires
-acceptance-requires c κs = search needs
-
 -- the MAC is that of the JWS Signing Input under the chosen key's secret
 by-mac : {v : Verified} (c : tie.After-is-mac) → let a = c .before .before .before .before .before .before .before .args in
     v ≡ cond (c .is-mac .result) (acceptanceOf (a .opened) (a .choice)) (refusalOf 15) → v ≡ concluded (a .opened) (a .choice) (a .input .now) (a .table .now)
@@ -30,9 +18,6 @@ by-mac c h =
 returns : tie.Need-returns
 returns c = by-mac (c .before .before) (rw (c .before .if1 .taken) (c .acceptance .ensures))
 
-refusal-requires : tie.Need-refusal-requires
-refusal-requires c κs = search needs
-
 returns-2 : tie.Need-returns-2
 returns-2 c = by-mac (c .before .before) (rw (c .before .if1 .left) (c .refusal .ensures))
 
@@ -40,10 +25,7 @@ pub conclude-spec : {M : Type 1} → statement M
 conclude-spec =
     tie.close
     (tie.spec
-    secret-requires
-    hmac-sha256-requires
-    is-mac-requires
-    acceptance-requires
+    (λ c κs. search needs) (λ c κs. search needs) (λ c κs. search needs) (λ c κs. search needs)
     returns
-    refusal-requires
+    (λ c κs. search needs)
     returns-2)

@@ -9,17 +9,8 @@ use Rattle.jws.proofs.JudgeLaws as law
 use Rattle.jws.proofs.judging.judge.Statement.{statement}
 use Rattle.jws.proofs.judging.judge.Tie as tie
 
-refusal-requires : tie.Need-refusal-requires
-refusal-requires c κs = search needs
-
 returns : tie.Need-returns
 returns c = law.refused-long _ _ _ _ (omega arith) (c .refusal .ensures)
-
-good-requires : tie.Need-good-requires
-good-requires c κs = search needs
-
-refusal-requires-2 : tie.Need-refusal-requires-2
-refusal-requires-2 c κs = search needs
 
 returns-2 : tie.Need-returns-2
 returns-2 c = law.refused-table _ _ _ _ (omega arith) (law.table-bad _ (c .before .before .good2 .ensures) (c .before .if2 .taken)) (c .refusal2 .ensures)
@@ -27,18 +18,6 @@ returns-2 c = law.refused-table _ _ _ _ (omega arith) (law.table-bad _ (c .befor
 -- past rule 2
 good : (c : tie.Else2) → badTable (c .before .before .before .before .before .before .before .args .table .now) ≡ false
 good c = law.table-good _ (c .before .good2 .ensures) (c .if2 .left)
-
-split-requires : tie.Need-split-requires
-split-requires c κs = search needs
-
-enum-known-a : tie.Need-enum-known-a
-enum-known-a c = search needs
-
-enum-told : tie.Need-enum-told
-enum-told c = search needs
-
-refusal-requires-3 : tie.Need-refusal-requires-3
-refusal-requires-3 c κs = search needs
 
 returns-3 : tie.Need-returns-3
 returns-3 c =
@@ -50,12 +29,6 @@ judge-segments-requires c κs =
     let s = c .before .before .before .before .before in
     (good (s .before), split-at _ (sym (c .before .before .before .a .given .1) ∙ s .split .ensures))
 
-same-length : tie.Need-same-length
-same-length c = search needs
-
-same-length-2 : tie.Need-same-length-2
-same-length-2 c = search needs
-
 returns-4 : tie.Need-returns-4
 returns-4 c =
     let j = c .before .before .before .before in
@@ -66,17 +39,12 @@ pub judge-spec : {M : Type 1} → statement M
 judge-spec =
     tie.close
     (tie.spec
-    refusal-requires
+    (λ c κs. search needs)
     returns
-    good-requires
-    refusal-requires-2
+    (λ c κs. search needs) (λ c κs. search needs)
     returns-2
-    split-requires
-    enum-known-a
-    enum-told
-    refusal-requires-3
+    (λ c κs. search needs) (λ c. search needs) (λ c. search needs) (λ c κs. search needs)
     returns-3
     judge-segments-requires
-    same-length
-    same-length-2
+    (λ c. search needs) (λ c. search needs)
     returns-4)

@@ -6,18 +6,6 @@ use Rattle.jws.proofs.JudgeLaws as law
 use Rattle.jws.proofs.judging.judge_header.Statement.{statement}
 use Rattle.jws.proofs.judging.judge_header.Tie as tie
 
-decide-with-requires : tie.Need-decide-with-requires
-decide-with-requires c κs = search needs
-
-enum-known-answer : tie.Need-enum-known-answer
-enum-known-answer c = search needs
-
-refusal-requires : tie.Need-refusal-requires
-refusal-requires c κs = search needs
-
-enum-known-choice : tie.Need-enum-known-choice
-enum-known-choice c = search needs
-
 conclude-requires : tie.Need-conclude-requires
 conclude-requires c κs =
     let d = c .before .before .before in
@@ -37,10 +25,7 @@ pub judge-header-spec : {M : Type 1} → statement M
 judge-header-spec =
     tie.close
     (tie.spec
-    decide-with-requires
-    enum-known-answer
-    refusal-requires
-    enum-known-choice
+    (λ c κs. search needs) (λ c. search needs) (λ c κs. search needs) (λ c. search needs)
     conclude-requires
     returns
     returns-2)

@@ -7,29 +7,11 @@ use Rattle.jws.proofs.FrontLaws.{length-text, token-laid}
 use Rattle.jws.proofs.making.compose.Statement.{statement}
 use Rattle.jws.proofs.making.compose.Tie as tie
 
-alphabet-requires : tie.Need-alphabet-requires
-alphabet-requires c κs = search needs
-
-signing-input-requires : tie.Need-signing-input-requires
-signing-input-requires c κs = search needs
-
-sub-hmac-sha256 : tie.Need-sub-hmac-sha256
-sub-hmac-sha256 c = search needs
-
-part-hmac-sha256-start : tie.Need-part-hmac-sha256-start
-part-hmac-sha256-start c = search needs
-
 part-hmac-sha256-end : tie.Need-part-hmac-sha256-end
 part-hmac-sha256-end c =
     let i = c .before .before .before in
     let a = i .before .before .before .before .before .before .before .before .args in
     omega (arith, i .signing-input .ensures .size, i .signing-input .kept, length-dot (encode (a .header .now)) (encode (a .payload .now)))
-
-hmac-sha256-requires : tie.Need-hmac-sha256-requires
-hmac-sha256-requires c κs = search needs
-
-slice-aggregate-segment : tie.Need-slice-aggregate-segment
-slice-aggregate-segment c = search needs
 
 segment-requires : tie.Need-segment-requires
 segment-requires c κs =
@@ -37,9 +19,6 @@ segment-requires c κs =
     let i = m .before .before .before .before .before in
     let a = i .before .before .before .before .before .before .before .before .args in
     (i .before .before .before .alphabet .ensures, omega (arith, i .signing-input .ensures .size, i .signing-input .kept, length-dot (encode (a .header .now)) (encode (a .payload .now)), length-text (m .hmac-sha256 .result) (omega arith)))
-
-same-length : tie.Need-same-length
-same-length c = search needs
 
 returns : tie.Need-returns
 returns c =
@@ -55,13 +34,9 @@ pub compose-spec : {M : Type 1} → statement M
 compose-spec =
     tie.close
     (tie.spec
-    alphabet-requires
-    signing-input-requires
-    sub-hmac-sha256
-    part-hmac-sha256-start
+    (λ c κs. search needs) (λ c κs. search needs) (λ c. search needs) (λ c. search needs)
     part-hmac-sha256-end
-    hmac-sha256-requires
-    slice-aggregate-segment
+    (λ c κs. search needs) (λ c. search needs)
     segment-requires
-    same-length
+    (λ c. search needs)
     returns)

@@ -11,19 +11,10 @@ use Rattle.jws.proofs.WrittenLaws.{refuse, hand}
 use Rattle.jws.proofs.making.finish.Statement.{statement}
 use Rattle.jws.proofs.making.finish.Tie as tie
 
-refusal-requires : tie.Need-refusal-requires
-refusal-requires c κs = search needs
-
 returns : tie.Need-returns
 returns c =
     let a = c .before .before .before .before .before .before .args in
     refuse 1 (too-long (a .header .now) (a .payload .now) _ _ (payload-long (a .header .now) (a .payload .now) (omega arith))) (c .refusal .ensures) refl
-
-encoded-len-requires : tie.Need-encoded-len-requires
-encoded-len-requires c κs = search needs
-
-encoded-len-requires-2 : tie.Need-encoded-len-requires-2
-encoded-len-requires-2 c κs = search needs
 
 add-n : tie.Need-add-n
 add-n c = let a = c .before .before .before .before .before .before .before .args in omega (arith, encoded-length (length (a .header .now)), encoded-length (length (a .payload .now)))
@@ -31,18 +22,12 @@ add-n c = let a = c .before .before .before .before .before .before .before .arg
 add-n-2 : tie.Need-add-n-2
 add-n-2 c = let a = c .before .before .before .before .before .before .before .args in omega (arith, encoded-length (length (a .header .now)), encoded-length (length (a .payload .now)))
 
-refusal-requires-2 : tie.Need-refusal-requires-2
-refusal-requires-2 c κs = search needs
-
 returns-2 : tie.Need-returns-2
 returns-2 c =
     let l = c .before .before in
     let a = l .before .before .before .before .before .before .before .args in
     let n = finished-size (a .header .now) (a .payload .now) (l .before .encoded-len .ensures) (l .encoded-len2 .ensures) in
     refuse 1 (too-long (a .header .now) (a .payload .now) _ _ (omega arith)) (c .refusal2 .ensures) refl
-
-refusal-requires-3 : tie.Need-refusal-requires-3
-refusal-requires-3 c κs = search needs
 
 returns-3 : tie.Need-returns-3
 returns-3 c =
@@ -57,9 +42,6 @@ compose-requires c κs =
     let a = l .before .before .before .before .before .before .before .args in
     omega (arith, finished-size (a .header .now) (a .payload .now) (l .before .encoded-len .ensures) (l .encoded-len2 .ensures))
 
-same-length : tie.Need-same-length
-same-length c = search needs
-
 returns-4 : tie.Need-returns-4
 returns-4 c =
     let w = c .before .before in
@@ -73,16 +55,15 @@ pub finish-spec : {M : Type 1} → statement M
 finish-spec =
     tie.close
     (tie.spec
-    refusal-requires
+    (λ c κs. search needs)
     returns
-    encoded-len-requires
-    encoded-len-requires-2
+    (λ c κs. search needs) (λ c κs. search needs)
     add-n
     add-n-2
-    refusal-requires-2
+    (λ c κs. search needs)
     returns-2
-    refusal-requires-3
+    (λ c κs. search needs)
     returns-3
     compose-requires
-    same-length
+    (λ c. search needs)
     returns-4)

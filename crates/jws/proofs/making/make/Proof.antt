@@ -10,18 +10,6 @@ use Rattle.jws.proofs.WrittenLaws.{refuse, same-outcome}
 use Rattle.jws.proofs.making.make.Statement.{statement}
 use Rattle.jws.proofs.making.make.Tie as tie
 
-decide-requires : tie.Need-decide-requires
-decide-requires c κs = search needs
-
-enum-known-decision : tie.Need-enum-known-decision
-enum-known-decision c = search needs
-
-refusal-requires : tie.Need-refusal-requires
-refusal-requires c κs = search needs
-
-enum-known-decision-2 : tie.Need-enum-known-decision-2
-enum-known-decision-2 c = search needs
-
 secret-requires : tie.Need-secret-requires
 secret-requires c κs =
     let d = c .before in
@@ -41,9 +29,6 @@ returns c =
     let m = c .before .before .before in
     refuse _ (head-refuses _ _ _ _ (sym (c .before .before .decision .given .1) ∙ m .before .decide .ensures)) (c .refusal .ensures) refl
 
-same-length : tie.Need-same-length
-same-length c = search needs
-
 returns-2 : tie.Need-returns-2
 returns-2 c =
     let w = c .before .before in
@@ -58,12 +43,9 @@ pub make-spec : {M : Type 1} → statement M
 make-spec =
     tie.close
     (tie.spec
-    decide-requires
-    enum-known-decision
-    refusal-requires
-    enum-known-decision-2
+    (λ c κs. search needs) (λ c. search needs) (λ c κs. search needs) (λ c. search needs)
     secret-requires
     finish-requires
     returns
-    same-length
+    (λ c. search needs)
     returns-2)

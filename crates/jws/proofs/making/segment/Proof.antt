@@ -8,29 +8,11 @@ use Rattle.jws.proofs.FrontLaws.{segment-front}
 use Rattle.jws.proofs.making.segment.Statement.{statement}
 use Rattle.jws.proofs.making.segment.Tie as tie
 
-slice-write-token : tie.Need-slice-write-token
-slice-write-token c = search needs
-
-add-encode-with : tie.Need-add-encode-with
-add-encode-with c = search needs
-
 sub-encode-with : tie.Need-sub-encode-with
 sub-encode-with c = simp length-set (omega arith)
 
 part-encode-with-start : tie.Need-part-encode-with-start
 part-encode-with-start c = simp length-set (omega arith)
-
-part-encode-with-end : tie.Need-part-encode-with-end
-part-encode-with-end c = search needs
-
-encode-with-requires : tie.Need-encode-with-requires
-encode-with-requires c κs = search needs
-
-add-result : tie.Need-add-result
-add-result c = search needs
-
-encoded-len-requires : tie.Need-encoded-len-requires
-encoded-len-requires c κs = search needs
 
 add-result-2 : tie.Need-add-result-2
 add-result-2 c = omega (arith, length-encode (c .before .before .before .before .before .before .before .args .bytes .now))
@@ -48,14 +30,10 @@ pub segment-spec : {M : Type 1} → statement M
 segment-spec =
     tie.close
     (tie.spec
-    slice-write-token
-    add-encode-with
+    (λ c. search needs) (λ c. search needs)
     sub-encode-with
     part-encode-with-start
-    part-encode-with-end
-    encode-with-requires
-    add-result
-    encoded-len-requires
+    (λ c. search needs) (λ c κs. search needs) (λ c. search needs) (λ c κs. search needs)
     add-result-2
     same-length
     returns)

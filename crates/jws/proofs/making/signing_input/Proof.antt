@@ -7,19 +7,10 @@ use Rattle.jws.proofs.FrontLaws.{text-front, front-more}
 use Rattle.jws.proofs.making.signing_input.Statement.{statement}
 use Rattle.jws.proofs.making.signing_input.Tie as tie
 
-encode-with-requires : tie.Need-encode-with-requires
-encode-with-requires c κs = search needs
-
-encoded-len-requires : tie.Need-encoded-len-requires
-encoded-len-requires c κs = search needs
-
 segment-requires : tie.Need-segment-requires
 segment-requires c κs =
     let s = c .before .before .before .before .before .before .before .before .before in
     (s .pre .0, omega (arith, length-encode (s .args .header .now), c .before .before .before .before .encode-with .kept))
-
-same-length : tie.Need-same-length
-same-length c = search needs
 
 returns : tie.Need-returns
 returns c =
@@ -34,4 +25,4 @@ returns c =
 pub signing-input-spec : {M : Type 1} → statement M
 signing-input-spec =
     tie.close
-    (tie.spec encode-with-requires encoded-len-requires segment-requires same-length returns)
+    (tie.spec (λ c κs. search needs) (λ c κs. search needs) segment-requires (λ c. search needs) returns)

@@ -6,51 +6,6 @@ use borrow.Author.Needs.{needs}
 use Rattle.jws_ffi.proofs.members.answer_of.Statement.{statement}
 use Rattle.jws_ffi.proofs.members.answer_of.Tie as tie
 
-enum-known-m : tie.Need-enum-known-m
-enum-known-m c = search needs
-
-found-requires : tie.Need-found-requires
-found-requires c κs = search needs
-
-enum-known-m-2 : tie.Need-enum-known-m-2
-enum-known-m-2 c = search needs
-
-found-requires-2 : tie.Need-found-requires-2
-found-requires-2 c κs = search needs
-
-enum-known-m-3 : tie.Need-enum-known-m-3
-enum-known-m-3 c = search needs
-
-found-requires-3 : tie.Need-found-requires-3
-found-requires-3 c κs = search needs
-
-enum-known-m-4 : tie.Need-enum-known-m-4
-enum-known-m-4 c = search needs
-
-found-requires-4 : tie.Need-found-requires-4
-found-requires-4 c κs = search needs
-
-enum-known-m-5 : tie.Need-enum-known-m-5
-enum-known-m-5 c = search needs
-
-found-requires-5 : tie.Need-found-requires-5
-found-requires-5 c κs = search needs
-
-enum-known-m-6 : tie.Need-enum-known-m-6
-enum-known-m-6 c = search needs
-
-found-requires-6 : tie.Need-found-requires-6
-found-requires-6 c κs = search needs
-
-enum-known-m-7 : tie.Need-enum-known-m-7
-enum-known-m-7 c = search needs
-
-found-requires-7 : tie.Need-found-requires-7
-found-requires-7 c κs = search needs
-
-enum-known-m-8 : tie.Need-enum-known-m-8
-enum-known-m-8 c = search needs
-
 returns : tie.Need-returns
 unfolding numberOf memberWords foundWords valuesOf kindNumber
 returns c = rw (c .before .before .m .given .1) (c .found .ensures)
@@ -87,21 +42,9 @@ pub answer-of-spec : {M : Type 1} → statement M
 answer-of-spec =
     tie.close
     (tie.spec
-    enum-known-m
-    found-requires
-    enum-known-m-2
-    found-requires-2
-    enum-known-m-3
-    found-requires-3
-    enum-known-m-4
-    found-requires-4
-    enum-known-m-5
-    found-requires-5
-    enum-known-m-6
-    found-requires-6
-    enum-known-m-7
-    found-requires-7
-    enum-known-m-8
+    (λ c. search needs) (λ c κs. search needs) (λ c. search needs) (λ c κs. search needs) (λ c. search needs)
+    (λ c κs. search needs) (λ c. search needs) (λ c κs. search needs) (λ c. search needs) (λ c κs. search needs)
+    (λ c. search needs) (λ c κs. search needs) (λ c. search needs) (λ c κs. search needs) (λ c. search needs)
     returns
     returns-2
     returns-3

@@ -4,14 +4,8 @@ use borrow.Author.Needs.{needs}
 use Rattle.jws_ffi.proofs.members.jws_member.Statement.{statement}
 use Rattle.jws_ffi.proofs.members.jws_member.Tie as tie
 
-member-requires : tie.Need-member-requires
-member-requires c κs = search needs
-
-answer-of-requires : tie.Need-answer-of-requires
-answer-of-requires c κs = search needs
-
 returns : tie.Need-returns
 returns c = rw (sym (c .before .before .member .ensures)) (c .before .answer-of .ensures)
 
 pub jws-member-spec : {M : Type 1} → statement M
-jws-member-spec = tie.close (tie.spec member-requires answer-of-requires returns)
+jws-member-spec = tie.close (tie.spec (λ c κs. search needs) (λ c κs. search needs) returns)

@@ -5,14 +5,8 @@ use Rattle.jws_ffi.specs.Words.{signWords}
 use Rattle.jws_ffi.proofs.tokens.jws_sign.Statement.{statement}
 use Rattle.jws_ffi.proofs.tokens.jws_sign.Tie as tie
 
-sign-requires : tie.Need-sign-requires
-sign-requires c κs = search needs
-
-same-length : tie.Need-same-length
-same-length c = search needs
-
 returns : tie.Need-returns
 returns c = ap signWords (c .before .before .sign .ensures)
 
 pub jws-sign-spec : {M : Type 1} → statement M
-jws-sign-spec = tie.close (tie.spec sign-requires same-length returns)
+jws-sign-spec = tie.close (tie.spec (λ c κs. search needs) (λ c. search needs) returns)

@@ -35,18 +35,6 @@ abbrev μ-loop : tie.MeasureT-loop
 loop-holds : tie.Need-loop-holds Inv-loop μ-loop
 loop-holds c = (omega arith, (λ e. below-none _, λ h. refl))
 
-array-read-d : tie.Need-array-read-d Inv-loop μ-loop
-array-read-d c = omega arith
-
-array-read-d-2 : tie.Need-array-read-d-2 Inv-loop μ-loop
-array-read-d-2 c = omega arith
-
-add-i : tie.Need-add-i Inv-loop μ-loop
-add-i c = omega arith
-
-loop-less : tie.Need-loop-less Inv-loop μ-loop
-loop-less c = omega arith
-
 loop-again : tie.Need-loop-again Inv-loop μ-loop
 loop-again c =
     let l = c .before .loop in
@@ -72,9 +60,6 @@ all-equal-spec =
     Inv-loop
     μ-loop
     loop-holds
-    array-read-d
-    array-read-d-2
-    add-i
-    loop-less
+    (λ c. omega arith) (λ c. omega arith) (λ c. omega arith) (λ c. omega arith)
     loop-again
     returns)

@@ -11,15 +11,6 @@ use Rattle.jws_segments.proofs.opening.opening_answer.Tie as tie
 strict-all : (c : tie.Else3) → not (c .before .before .before .args .x) || (not (c .before .before .before .args .y) || not (c .before .before .before .args .z)) ≡ false
 strict-all c = rw (c .before .before .if1 .left, c .before .if2 .left, c .if3 .left)
 
-returns : tie.Need-returns
-returns c = search needs
-
-returns-2 : tie.Need-returns-2
-returns-2 c = search needs
-
-returns-3 : tie.Need-returns-3
-returns-3 c = search needs
-
 returns-4 : tie.Need-returns-4
 returns-4 c =
     let s = c .before in
@@ -46,4 +37,4 @@ returns-7 c =
 
 pub opening-answer-spec : {M : Type 1} → statement M
 opening-answer-spec =
-    tie.close (tie.spec returns returns-2 returns-3 returns-4 returns-5 returns-6 returns-7)
+    tie.close (tie.spec (λ c. search needs) (λ c. search needs) (λ c. search needs) returns-4 returns-5 returns-6 returns-7)

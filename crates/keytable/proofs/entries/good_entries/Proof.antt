@@ -15,23 +15,11 @@ Inv-loop table n first i₀ i = (i ≤ n) × GoodEntries table i × (first ≡ e
 abbrev μ-loop : tie.MeasureT-loop
 μ-loop table n first i₀ i = n - i
 
-mul-first : tie.Need-mul-first Inv-loop μ-loop
-mul-first c = omega arith
-
-add-first : tie.Need-add-first Inv-loop μ-loop
-add-first c = omega arith
-
 loop-holds : tie.Need-loop-holds Inv-loop μ-loop
 loop-holds c = (omega arith, below-none _, refl)
 
 good-entry-requires : tie.Need-good-entry-requires Inv-loop μ-loop
 good-entry-requires c κs = (omega arith, omega arith, omega arith)
-
-add-i : tie.Need-add-i Inv-loop μ-loop
-add-i c = omega arith
-
-loop-less : tie.Need-loop-less Inv-loop μ-loop
-loop-less c = omega arith
 
 loop-again : tie.Need-loop-again Inv-loop μ-loop
 loop-again c = (omega arith, below-more _ _ (c .before .before .before .loop .inv .1) (when-true (c .before .good-entry .ensures) (c .if1 .taken)), c .before .before .before .loop .inv .2)
@@ -48,12 +36,10 @@ good-entries-spec =
     (tie.spec
     Inv-loop
     μ-loop
-    mul-first
-    add-first
+    (λ c. omega arith) (λ c. omega arith)
     loop-holds
     good-entry-requires
-    add-i
-    loop-less
+    (λ c. omega arith) (λ c. omega arith)
     loop-again
     returns
     returns-2)

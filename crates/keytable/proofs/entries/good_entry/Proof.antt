@@ -6,33 +6,6 @@ use Rattle.common.specs.Decided.{decides-by, when-true, when-false}
 use Rattle.keytable.proofs.entries.good_entry.Statement.{statement}
 use Rattle.keytable.proofs.entries.good_entry.Tie as tie
 
-mul-at : tie.Need-mul-at
-mul-at c = search needs
-
-add-at : tie.Need-add-at
-add-at c = search needs
-
-placed-requires : tie.Need-placed-requires
-placed-requires c κs = search needs
-
-add-placed : tie.Need-add-placed
-add-placed c = search needs
-
-placed-requires-2 : tie.Need-placed-requires-2
-placed-requires-2 c κs = search needs
-
-add-if3 : tie.Need-add-if3
-add-if3 c = search needs
-
-shared-slice-read-if3 : tie.Need-shared-slice-read-if3
-shared-slice-read-if3 c = search needs
-
-add-number2-at : tie.Need-add-number2-at
-add-number2-at c = search needs
-
-number2-at-requires : tie.Need-number2-at-requires
-number2-at-requires c κs = search needs
-
 returns : tie.Need-returns
 returns c =
     let l = c .before .before .before in
@@ -58,15 +31,8 @@ pub good-entry-spec : {M : Type 1} → statement M
 good-entry-spec =
     tie.close
     (tie.spec
-    mul-at
-    add-at
-    placed-requires
-    add-placed
-    placed-requires-2
-    add-if3
-    shared-slice-read-if3
-    add-number2-at
-    number2-at-requires
+    (λ c. search needs) (λ c. search needs) (λ c κs. search needs) (λ c. search needs) (λ c κs. search needs)
+    (λ c. search needs) (λ c. search needs) (λ c. search needs) (λ c κs. search needs)
     returns
     returns-2
     returns-3

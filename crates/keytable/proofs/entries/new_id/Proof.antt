@@ -15,40 +15,19 @@ Inv-loop table j id i₀ i = (i ≤ j) × ((k : ℕ) → k < i → idOf table k 
 abbrev μ-loop : tie.MeasureT-loop
 μ-loop table j id i₀ i = j - i
 
-mul-area : tie.Need-mul-area Inv-loop μ-loop
-mul-area c = omega arith
-
-add-area : tie.Need-add-area Inv-loop μ-loop
-add-area c = omega arith
-
 area-requires : tie.Need-area-requires Inv-loop μ-loop
 area-requires c κs = (omega arith, c .before .pre .2 _ (c .before .pre .0) .id .ends)
 
 loop-holds : tie.Need-loop-holds Inv-loop μ-loop
 loop-holds c = (omega arith, below-none _, c .area .ensures)
 
-mul-area-2 : tie.Need-mul-area-2 Inv-loop μ-loop
-mul-area-2 c = omega arith
-
-add-area-2 : tie.Need-add-area-2 Inv-loop μ-loop
-add-area-2 c = omega arith
-
 area-requires-2 : tie.Need-area-requires-2 Inv-loop μ-loop
 area-requires-2 c κs = (omega arith, c .before .before .before .before .pre .2 (c .before .loop .i) (omega arith) .id .ends)
-
-same-requires : tie.Need-same-requires Inv-loop μ-loop
-same-requires c κs = tt
 
 returns : tie.Need-returns Inv-loop μ-loop
 returns c =
     let l = c .before .before .before .before in
     fails (λ n. n _ (c .before .before .before .loop-test .taken) (sym (c .before .before .area2 .ensures) ∙ when-true (c .before .same .ensures) (c .if1 .taken) ∙ l .loop .inv .2))
-
-add-i : tie.Need-add-i Inv-loop μ-loop
-add-i c = omega arith
-
-loop-less : tie.Need-loop-less Inv-loop μ-loop
-loop-less c = omega arith
 
 loop-again : tie.Need-loop-again Inv-loop μ-loop
 loop-again c =
@@ -64,16 +43,13 @@ new-id-spec =
     (tie.spec
     Inv-loop
     μ-loop
-    mul-area
-    add-area
+    (λ c. omega arith) (λ c. omega arith)
     area-requires
     loop-holds
-    mul-area-2
-    add-area-2
+    (λ c. omega arith) (λ c. omega arith)
     area-requires-2
-    same-requires
+    (λ c κs. tt)
     returns
-    add-i
-    loop-less
+    (λ c. omega arith) (λ c. omega arith)
     loop-again
     returns-2)

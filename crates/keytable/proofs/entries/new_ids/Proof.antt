@@ -20,12 +20,6 @@ loop-holds c = (omega arith, below-none _)
 new-id-requires : tie.Need-new-id-requires Inv-loop μ-loop
 new-id-requires c κs = (omega arith, omega arith, λ i h. c .before .before .before .pre .2 i (omega arith))
 
-add-j : tie.Need-add-j Inv-loop μ-loop
-add-j c = omega arith
-
-loop-less : tie.Need-loop-less Inv-loop μ-loop
-loop-less c = omega arith
-
 loop-again : tie.Need-loop-again Inv-loop μ-loop
 loop-again c = (omega arith, below-more _ _ (c .before .before .before .loop .inv .1) (when-true (c .before .new-id .ensures) (c .if1 .taken)))
 
@@ -43,8 +37,7 @@ new-ids-spec =
     μ-loop
     loop-holds
     new-id-requires
-    add-j
-    loop-less
+    (λ c. omega arith) (λ c. omega arith)
     loop-again
     returns
     returns-2)

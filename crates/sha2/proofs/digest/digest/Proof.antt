@@ -21,32 +21,11 @@ loop-holds : tie.Need-loop-holds Inv-loop μ-loop
 unfolding wordBytes
 loop-holds c = (omega arith, omega arith, refl)
 
-mul-four-bytes : tie.Need-mul-four-bytes Inv-loop μ-loop
-mul-four-bytes c = omega arith
-
-array-read-four-bytes : tie.Need-array-read-four-bytes Inv-loop μ-loop
-array-read-four-bytes c = omega arith
-
-four-bytes-requires : tie.Need-four-bytes-requires Inv-loop μ-loop
-four-bytes-requires c κs = search needs
-
 slice-aggregate-copy-at : tie.Need-slice-aggregate-copy-at Inv-loop μ-loop
 slice-aggregate-copy-at c = sym (c .before .before .before .loop .inv .1)
 
-mul-copy-at : tie.Need-mul-copy-at Inv-loop μ-loop
-mul-copy-at c = omega arith
-
-slice-aggregate-copy-at-2 : tie.Need-slice-aggregate-copy-at-2 Inv-loop μ-loop
-slice-aggregate-copy-at-2 c = search needs
-
 copy-at-requires : tie.Need-copy-at-requires Inv-loop μ-loop
 copy-at-requires c κs = omega (arith, ap length (c .before .before .four-bytes .ensures) ∙ length-bigEndian 4 _)
-
-add-i : tie.Need-add-i Inv-loop μ-loop
-add-i c = omega arith
-
-loop-less : tie.Need-loop-less Inv-loop μ-loop
-loop-less c = omega arith
 
 loop-again : tie.Need-loop-again Inv-loop μ-loop
 loop-again c =
@@ -71,14 +50,10 @@ digest-spec =
     Inv-loop
     μ-loop
     loop-holds
-    mul-four-bytes
-    array-read-four-bytes
-    four-bytes-requires
+    (λ c. omega arith) (λ c. omega arith) (λ c κs. search needs)
     slice-aggregate-copy-at
-    mul-copy-at
-    slice-aggregate-copy-at-2
+    (λ c. omega arith) (λ c. search needs)
     copy-at-requires
-    add-i
-    loop-less
+    (λ c. omega arith) (λ c. omega arith)
     loop-again
     returns)

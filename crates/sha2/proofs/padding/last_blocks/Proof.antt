@@ -10,28 +10,10 @@ use Rattle.sha2.proofs.PaddedLaws.{modulo, ends, last}
 use Rattle.sha2.proofs.padding.last_blocks.Statement.{statement}
 use Rattle.sha2.proofs.padding.last_blocks.Tie as tie
 
-slice-aggregate-copy-at : tie.Need-slice-aggregate-copy-at
-slice-aggregate-copy-at c = search needs
-
-copy-at-requires : tie.Need-copy-at-requires
-copy-at-requires c κs = search needs
-
-array-write-d : tie.Need-array-write-d
-array-write-d c = search needs
-
-eight-bytes-requires : tie.Need-eight-bytes-requires
-eight-bytes-requires c κs = search needs
-
-slice-aggregate-copy-at-2 : tie.Need-slice-aggregate-copy-at-2
-slice-aggregate-copy-at-2 c = search needs
-
 sub-copy-at : tie.Need-sub-copy-at
 sub-copy-at c =
     let s = c .before .before .before .before .before .before in
     omega (arith, ends (s .args .r .now) (s .args .total) (s .pre .0))
-
-slice-aggregate-copy-at-3 : tie.Need-slice-aggregate-copy-at-3
-slice-aggregate-copy-at-3 c = search needs
 
 copy-at-requires-2 : tie.Need-copy-at-requires-2
 copy-at-requires-2 c κs =
@@ -49,12 +31,8 @@ pub last-blocks-spec : {M : Type 1} → statement M
 last-blocks-spec =
     tie.close
     (tie.spec
-    slice-aggregate-copy-at
-    copy-at-requires
-    array-write-d
-    eight-bytes-requires
-    slice-aggregate-copy-at-2
+    (λ c. search needs) (λ c κs. search needs) (λ c. search needs) (λ c κs. search needs) (λ c. search needs)
     sub-copy-at
-    slice-aggregate-copy-at-3
+    (λ c. search needs)
     copy-at-requires-2
     returns)

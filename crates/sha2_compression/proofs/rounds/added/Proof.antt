@@ -21,33 +21,6 @@ loop-holds : tie.Need-loop-holds Inv-loop μ-loop
 unfolding sums
 loop-holds c = (omega arith, omega arith, refl)
 
-mul-wrapping-add-u32 : tie.Need-mul-wrapping-add-u32 Inv-loop μ-loop
-mul-wrapping-add-u32 c = omega arith
-
-array-read-wrapping-add-u32 : tie.Need-array-read-wrapping-add-u32 Inv-loop μ-loop
-array-read-wrapping-add-u32 c = omega arith
-
-mul-wrapping-add-u32-2 : tie.Need-mul-wrapping-add-u32-2 Inv-loop μ-loop
-mul-wrapping-add-u32-2 c = omega arith
-
-array-read-wrapping-add-u32-2 : tie.Need-array-read-wrapping-add-u32-2 Inv-loop μ-loop
-array-read-wrapping-add-u32-2 c = omega arith
-
-wrapping-add-u32-requires : tie.Need-wrapping-add-u32-requires Inv-loop μ-loop
-wrapping-add-u32-requires c κs = search needs
-
-mul-r : tie.Need-mul-r Inv-loop μ-loop
-mul-r c = omega arith
-
-array-write-r : tie.Need-array-write-r Inv-loop μ-loop
-array-write-r c = omega arith
-
-add-i : tie.Need-add-i Inv-loop μ-loop
-add-i c = omega arith
-
-loop-less : tie.Need-loop-less Inv-loop μ-loop
-loop-less c = omega arith
-
 loop-again : tie.Need-loop-again Inv-loop μ-loop
 loop-again c =
     let l = c .before .before .loop in
@@ -70,14 +43,7 @@ added-spec =
     Inv-loop
     μ-loop
     loop-holds
-    mul-wrapping-add-u32
-    array-read-wrapping-add-u32
-    mul-wrapping-add-u32-2
-    array-read-wrapping-add-u32-2
-    wrapping-add-u32-requires
-    mul-r
-    array-write-r
-    add-i
-    loop-less
+    (λ c. omega arith) (λ c. omega arith) (λ c. omega arith) (λ c. omega arith) (λ c κs. search needs)
+    (λ c. omega arith) (λ c. omega arith) (λ c. omega arith) (λ c. omega arith)
     loop-again
     returns)

@@ -24,51 +24,9 @@ Inv-loop2 k b w v₀ t₀ v t = (t ≤ 64) × (t % 2 ≡ 0) × ((s : List ℕ) �
 abbrev μ-loop2 : tie.MeasureT-loop2
 μ-loop2 k b w v₀ t₀ v t = 64 - t
 
-block-words-requires : tie.Need-block-words-requires Inv-loop μ-loop Inv-loop2 μ-loop2
-block-words-requires c κs = search needs
-
 loop-holds : tie.Need-loop-holds Inv-loop μ-loop Inv-loop2 μ-loop2
 unfolding rounds
 loop-holds c = (omega arith, omega arith, omega arith, c .block-words .ensures, refl)
-
-two-rounds-requires : tie.Need-two-rounds-requires Inv-loop μ-loop Inv-loop2 μ-loop2
-two-rounds-requires c κs = omega arith
-
-add-later-word : tie.Need-add-later-word Inv-loop μ-loop Inv-loop2 μ-loop2
-add-later-word c = omega arith
-
-later-word-requires : tie.Need-later-word-requires Inv-loop μ-loop Inv-loop2 μ-loop2
-later-word-requires c κs = omega arith
-
-add-w : tie.Need-add-w Inv-loop μ-loop Inv-loop2 μ-loop2
-add-w c = omega arith
-
-mul-w : tie.Need-mul-w Inv-loop μ-loop Inv-loop2 μ-loop2
-mul-w c = omega arith
-
-array-write-w : tie.Need-array-write-w Inv-loop μ-loop Inv-loop2 μ-loop2
-array-write-w c = omega arith
-
-add-later-word-2 : tie.Need-add-later-word-2 Inv-loop μ-loop Inv-loop2 μ-loop2
-add-later-word-2 c = omega arith
-
-later-word-requires-2 : tie.Need-later-word-requires-2 Inv-loop μ-loop Inv-loop2 μ-loop2
-later-word-requires-2 c κs = omega arith
-
-add-w-2 : tie.Need-add-w-2 Inv-loop μ-loop Inv-loop2 μ-loop2
-add-w-2 c = omega arith
-
-mul-w-2 : tie.Need-mul-w-2 Inv-loop μ-loop Inv-loop2 μ-loop2
-mul-w-2 c = omega arith
-
-array-write-w-2 : tie.Need-array-write-w-2 Inv-loop μ-loop Inv-loop2 μ-loop2
-array-write-w-2 c = omega arith
-
-add-t : tie.Need-add-t Inv-loop μ-loop Inv-loop2 μ-loop2
-add-t c = omega arith
-
-loop-less : tie.Need-loop-less Inv-loop μ-loop Inv-loop2 μ-loop2
-loop-less c = omega arith
 
 loop-again : tie.Need-loop-again Inv-loop μ-loop Inv-loop2 μ-loop2
 loop-again c =
@@ -86,15 +44,6 @@ loop-again c =
 
 loop2-holds : tie.Need-loop2-holds Inv-loop μ-loop Inv-loop2 μ-loop2
 loop2-holds c = (omega arith, omega arith, λ s e. e)
-
-two-rounds-requires-2 : tie.Need-two-rounds-requires-2 Inv-loop μ-loop Inv-loop2 μ-loop2
-two-rounds-requires-2 c κs = omega arith
-
-add-t-2 : tie.Need-add-t-2 Inv-loop μ-loop Inv-loop2 μ-loop2
-add-t-2 c = omega arith
-
-loop2-less : tie.Need-loop2-less Inv-loop μ-loop Inv-loop2 μ-loop2
-loop2-less c = omega arith
 
 loop2-again : tie.Need-loop2-again Inv-loop μ-loop Inv-loop2 μ-loop2
 loop2-again c =
@@ -124,25 +73,13 @@ all-rounds-spec =
     μ-loop
     Inv-loop2
     μ-loop2
-    block-words-requires
+    (λ c κs. search needs)
     loop-holds
-    two-rounds-requires
-    add-later-word
-    later-word-requires
-    add-w
-    mul-w
-    array-write-w
-    add-later-word-2
-    later-word-requires-2
-    add-w-2
-    mul-w-2
-    array-write-w-2
-    add-t
-    loop-less
+    (λ c κs. omega arith) (λ c. omega arith) (λ c κs. omega arith) (λ c. omega arith) (λ c. omega arith)
+    (λ c. omega arith) (λ c. omega arith) (λ c κs. omega arith) (λ c. omega arith) (λ c. omega arith) (λ c. omega arith)
+    (λ c. omega arith) (λ c. omega arith)
     loop-again
     loop2-holds
-    two-rounds-requires-2
-    add-t-2
-    loop2-less
+    (λ c κs. omega arith) (λ c. omega arith) (λ c. omega arith)
     loop2-again
     returns)

@@ -4,15 +4,9 @@ use Rattle.sha2_compression.specs.Compression.{compressed}
 use Rattle.sha2_compression.proofs.rounds.compress.Statement.{statement}
 use Rattle.sha2_compression.proofs.rounds.compress.Tie as tie
 
-all-rounds-requires : tie.Need-all-rounds-requires
-all-rounds-requires c κs = search needs
-
-added-requires : tie.Need-added-requires
-added-requires c κs = search needs
-
 returns : tie.Need-returns
 unfolding compressed
 returns c = cc
 
 pub compress-spec : {M : Type 1} → statement M
-compress-spec = tie.close (tie.spec all-rounds-requires added-requires returns)
+compress-spec = tie.close (tie.spec (λ c κs. search needs) (λ c κs. search needs) returns)

@@ -19,24 +19,6 @@ loop-holds : tie.Need-loop-holds Inv-loop μ-loop
 unfolding schedule
 loop-holds c = (omega arith, refl, refl)
 
-mul-number4-at : tie.Need-mul-number4-at Inv-loop μ-loop
-mul-number4-at c = omega arith
-
-number4-at-requires : tie.Need-number4-at-requires Inv-loop μ-loop
-number4-at-requires c κs = omega arith
-
-mul-w : tie.Need-mul-w Inv-loop μ-loop
-mul-w c = omega arith
-
-array-write-w : tie.Need-array-write-w Inv-loop μ-loop
-array-write-w c = omega arith
-
-add-t : tie.Need-add-t Inv-loop μ-loop
-add-t c = omega arith
-
-loop-less : tie.Need-loop-less Inv-loop μ-loop
-loop-less c = omega arith
-
 loop-again : tie.Need-loop-again Inv-loop μ-loop
 loop-again c =
     let l = c .before .before .loop in
@@ -60,11 +42,6 @@ block-words-spec =
     Inv-loop
     μ-loop
     loop-holds
-    mul-number4-at
-    number4-at-requires
-    mul-w
-    array-write-w
-    add-t
-    loop-less
+    (λ c. omega arith) (λ c κs. omega arith) (λ c. omega arith) (λ c. omega arith) (λ c. omega arith) (λ c. omega arith)
     loop-again
     returns)
