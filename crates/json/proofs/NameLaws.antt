@@ -88,24 +88,24 @@ module _ {s a : List ℕ} where
       go : (n : List ℕ) (b : List (List ℕ)) → Block s a 0 b → NameAt s q n → among n b ≡ false
       go n b empty h = refl
 
-  pub without-next : {i q : ℕ} → Without s a i q → sameText s q (getD a i 0) ≡ false → Without s a (i + 1) q
+  pub without-next : {i q : ℕ} → Without s a i q → sameText s q s (getD a i 0) ≡ false → Without s a (i + 1) q
   unfolding among
   without-next {i} {q} w t = record { is = λ n b k h. go n h b (subst (λ (j : ℕ). Block s a j b) (add-one i) k) }
     where
       go : (n : List ℕ) → NameAt s q n → (b : List (List ℕ)) → Block s a (suc i) b → among n b ≡ false
-      go n h (m ∷ c) (one-more x y) = ap₂ _||_ (sym (names-same s q (getD a i 0) n m h x) ∙ t) (w .is n c y h)
+      go n h (m ∷ c) (one-more x y) = ap₂ _||_ (sym (names-same s q s (getD a i 0) n m h x) ∙ t) (w .is n c y h)
 
   pub without-all : {k i q : ℕ} → Without s a i q → i ≤ k → k ≤ i → Without s a k q
   without-all {k} {i} {q} w l h = let e : i ≡ k = omega arith in subst (λ (j : ℕ). Without s a j q) e w
 
   -- a name equal to the name at q is among them
-  found : {k : ℕ} {b : List (List ℕ)} → Block s a k b → (i q : ℕ) → i < k → (n : List ℕ) → NameAt s q n → sameText s q (getD a i 0) ≡ true → among n b ≡ true
+  found : {k : ℕ} {b : List (List ℕ)} → Block s a k b → (i q : ℕ) → i < k → (n : List ℕ) → NameAt s q n → sameText s q s (getD a i 0) ≡ true → among n b ≡ true
   unfolding among
   found empty i q l n h t = absurd (omega arith)
   found (one-more {k = k} {n = m} {b = b} x y) i q l n h t = go (eqb i k) refl (λ j. found y i q j n h t)
     where
       go : (e : Bool) → eqb i k ≡ e → (i < k → among n b ≡ true) → same n m || among n b ≡ true
-      go true e ih = ap (λ (z : Bool). z || among n b) (sym (names-same s q (getD a i 0) n m h (subst (λ (j : ℕ). NameAt s (getD a j 0) m) (sym (eqb-true i k e)) x)) ∙ t)
+      go true e ih = ap (λ (z : Bool). z || among n b) (sym (names-same s q s (getD a i 0) n m h (subst (λ (j : ℕ). NameAt s (getD a j 0) m) (sym (eqb-true i k e)) x)) ∙ t)
       go false e ih = let z = eqb-false i k e in or-true (same n m) (among n b) (ih (omega arith))
 
   -- a place past the block may be set
@@ -159,7 +159,7 @@ no-past e = absurd (let z : _≡_ {A = ℕ} 0 1 = cc in omega arith)
 
 module _ {s : List ℕ} {from : ℕ} (d : ℕ) {a : List ℕ} {k p : ℕ} (fl : Filling s d from a k p) where
   -- the name at p is in the block
-  pub filling-found : (i : ℕ) → i < k → sameText s (p + 1) (getD a i 0) ≡ true → Searched s from d Twice
+  pub filling-found : (i : ℕ) → i < k → sameText s (p + 1) s (getD a i 0) ≡ true → Searched s from d Twice
   unfolding crosses names plain
   filling-found i l t = record { later = λ q e. no-past e; is = λ ms m. let f = fl .is ms m in go ms f (f .rest) (f .here) (f .agrees) }
     where
@@ -234,7 +234,7 @@ module _ {s : List ℕ} {from : ℕ} (d : ℕ) {a : List ℕ} {k p : ℕ} (fl : 
 -- WHEN IT IS FULL: the names from p on are compared with it
 
 module _ (s : List ℕ) {a : List ℕ} {k : ℕ} (p d : ℕ) where
-  pub meets-found : (i : ℕ) → i < k → sameText s (p + 1) (getD a i 0) ≡ true → Meets s a k p d true
+  pub meets-found : (i : ℕ) → i < k → sameText s (p + 1) s (getD a i 0) ≡ true → Meets s a k p d true
   unfolding crosses names plain
   meets-found i l t = record { is = go }
     where

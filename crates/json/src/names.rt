@@ -38,7 +38,7 @@ fn block_twice(s: &[u8], from: usize, depth: usize) -> Search
         let print = fingerprint(s, p + 1);
         let mut i = 0;
         while i < count {
-            if same_by_fingerprint(s, p + 1, names[i], print, fingerprints[i]) {
+            if same_by_fingerprint(s, p + 1, s, names[i], print, fingerprints[i]) {
                 break 'pairs;
             }
             i += 1;
@@ -76,7 +76,7 @@ fn block_meets(
         let print = fingerprint(s, p + 1);
         let mut i = 0;
         while i < 64 {
-            if same_by_fingerprint(s, p + 1, names[i], print, fingerprints[i]) {
+            if same_by_fingerprint(s, p + 1, s, names[i], print, fingerprints[i]) {
                 break 'pairs;
             }
             i += 1;

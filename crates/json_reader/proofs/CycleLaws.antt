@@ -13,7 +13,8 @@ use Rattle.json_grammar.specs.Levels.{readMembers}
 use Rattle.json_string.specs.declared.End.{End}
 use Rattle.json_string.specs.declared.End.the-variants.{At, Bad}
 use Rattle.json_string.specs.Ends.{by, shorter}
-use Rattle.json_string.specs.Strings.{StringEnds}
+use Rattle.json_string.specs.Strings.{stringEnd, StringEnds}
+use Rattle.json_string.specs.StringLaws as string
 use Rattle.json_reader.specs.Contracts.{EndsBy, SkipsTo, WordEnds, NumberEnds, ValueEnds, BareEnds, ArrayEnds, ElementsEnd, ObjectEnds, MembersEnd, MemberEnds, AfterName}
 use Rattle.json_reader.specs.Contracts.{readTrimmed}
 use Rattle.json_reader.specs.ValueLaws.{no-trimmed, placed-at}
@@ -85,11 +86,11 @@ module _ {s : List ℕ} {from at : ℕ} (d : ℕ) (k : SkipsTo s from at) where
   pub colon-out : length s ≤ at → AfterName s from d Bad
   colon-out h = colon-value (out h (λ n. refl))
 
-string-ends : {s : List ℕ} {at : ℕ} {r : End} → StringEnds s at r → EndsBy readChars s at at r
+string-ends : {s : List ℕ} {at : ℕ} {r : End} → r ≡ stringEnd s at → EndsBy readChars s at at r
 unfolding StringEnds
-string-ends h = record { ends = h }
+string-ends {s} {at} h = record { ends = string.string-ends s at h }
 
-pub string-bounds : (s : List ℕ) (at e : ℕ) → StringEnds s at (At e) → (at ≤ e) × (e ≤ length s)
+pub string-bounds : (s : List ℕ) (at e : ℕ) → At e ≡ stringEnd s at → (at ≤ e) × (e ≤ length s)
 string-bounds s at e h = bounds (string-ends h)
 
 -- what follows the quotation mark of a name, the bytes x, after the characters cs
@@ -97,12 +98,12 @@ abbrev past-name : ℕ → List ℕ → List ℕ → ℕ → List ℕ → Got LM
 past-name d x cs n y = expect 0x3A (ws y) (λ z. over (named x (0x22 ∷ y) cs) (readValue n d z))
 
 module _ {s : List ℕ} {from : ℕ} (d : ℕ) where
-  pub member-is : {q : ℕ} {r : End} → from < length s → getD s from 0 ≡ 0x22 → StringEnds s (from + 1) (At q) → AfterName s q d r → MemberEnds s from d r
+  pub member-is : {q : ℕ} {r : End} → from < length s → getD s from 0 ≡ 0x22 → At q ≡ stringEnd s (from + 1) → AfterName s q d r → MemberEnds s from d r
   member-is {q} h b k rest =
       first h (omega arith) (λ n. rw b)
       (bind (omega arith) (past-name d) (string-ends k) (λ cs. same (λ n. expect-over 0x3A (ws (drop q s)) (named (drop (from + 1) s) (0x22 ∷ drop q s) cs) (λ z. readValue n d z)) (map (λ n y. named (drop (from + 1) s) (0x22 ∷ y) cs) rest)))
 
-  pub member-name-bad : from < length s → getD s from 0 ≡ 0x22 → StringEnds s (from + 1) Bad → MemberEnds s from d Bad
+  pub member-name-bad : from < length s → getD s from 0 ≡ 0x22 → Bad ≡ stringEnd s (from + 1) → MemberEnds s from d Bad
   member-name-bad h b k = first h (omega arith) (λ n. rw b) (bind-bad (omega arith) (past-name d) (string-ends k))
 
   pub member-no-quote : from < length s → (getD s from 0 ≡ 0x22 → ⊥) → MemberEnds s from d Bad
@@ -118,7 +119,7 @@ unfolding valueLead
 lead-number b h1 h2 h3 h4 h5 h6 = rw (ne-eqb b 0x22 h1, ne-eqb b 0x5B h2, ne-eqb b 0x7B h3, ne-eqb b 0x74 h4, ne-eqb b 0x66 h5, ne-eqb b 0x6E h6)
 
 module _ {s : List ℕ} {at : ℕ} {r : End} (d : ℕ) (h : at < length s) where
-  pub bare-string : getD s at 0 ≡ 0x22 → StringEnds s (at + 1) r → BareEnds s at d r
+  pub bare-string : getD s at 0 ≡ 0x22 → r ≡ stringEnd s (at + 1) → BareEnds s at d r
   unfolding readTrimmed valueLead
   bare-string b k = first-below h (omega arith) (λ n. rw b) (map (λ _ _. stringL) (string-ends k))
 

@@ -13,7 +13,7 @@ use Rattle.json_string.specs.declared.Scan.{Scan}
 use Rattle.json_string.specs.declared.Scan.the-variants.{Code, Wrong}
 use Rattle.json_string.specs.Ends.{at-byte}
 use Rattle.json_grammar.specs.ByteLaws.{within-true}
-use Rattle.json_string.specs.Strings.{Scans}
+use Rattle.json_string.specs.Characters.{Scans}
 use Rattle.json_string.specs.Steps.{ScanAt, ShortEscape, readDigits}
 use Rattle.json_string.proofs.ScanLaws.{scans-from, scan-same, scan-got, scan-after, scan-one, scan-not, scan-then, scan-none}
 

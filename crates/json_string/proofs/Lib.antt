@@ -5,6 +5,6 @@ pub mod DigitLaws
 pub mod FormLaws
 pub mod EscapeLaws
 pub mod CharLaws
-pub mod TextLaws
+pub mod TextPaths
 pub mod OctetLaws
 pub mod WriteLaws

@@ -9,7 +9,7 @@ use Rattle.json_grammar.specs.Reader.{Got, got, then, one}
 use Rattle.json_string.specs.declared.Scan.{Scan}
 use Rattle.json_string.specs.declared.Scan.the-variants.{Code, Wrong}
 use Rattle.json_string.specs.Ends.{at-byte}
-use Rattle.json_string.specs.Strings.{Scans}
+use Rattle.json_string.specs.Characters.{Scans}
 use Rattle.json_string.specs.Steps.{ScanAt}
 
 -- a result that is known to be a constructor

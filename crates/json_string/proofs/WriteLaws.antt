@@ -11,10 +11,11 @@ use Rattle.json_string.specs.declared.End.{End}
 use Rattle.json_string.specs.declared.End.the-variants.{At, Bad}
 use Rattle.json_string.specs.declared.Scan.the-variants.{Code}
 use Rattle.json_string.specs.declared.Resolved.the-variants.{Bytes, Nothing}
-use Rattle.json_string.specs.Strings.{CharAt, textAt, given, resolved, resolvedTo, resolvedAt, resolvedToAt}
+use Rattle.json_string.specs.Characters.{CharAt}
+use Rattle.json_string.specs.Strings.{textAt, given, resolved, resolvedTo, resolvedAt, resolvedToAt}
+use Rattle.json_string.specs.TextLaws.{text-quote, text-step}
 use Rattle.json_string.specs.Utf8.{octets, utf8}
 use Rattle.json_string.specs.Steps.{Wrote, Writes}
-use Rattle.json_string.proofs.TextLaws.{text-quote, text-step}
 
 -- a buffer of which the first n bytes were written
 pub record Front (old out : List ℕ) (n : ℕ) : Type 0 where

@@ -1,11 +1,13 @@
 -- Where a reader on lists ends in a slice, as a place; and the tools of laws on readers at places.
-use mathlib.Core.Path.{_≡_, refl, sym, ap, subst}
+use mathlib.Core.Path.{_≡_, refl, sym, ap, _∙_, subst}
 use mathlib.Core.List.{List, _∷_}
 use Prim.Native.Nat.{ℕ, _+_, _≤_, _<_}
 use native.Mathlib.Omega.{arith}
 use native.Mathlib.Numerals.{add-one}
 use lib.ListN.{length, drop, getD, length-drop}
 use lib.Seq.{drop-cons}
+use Rattle.json_grammar.specs.Endings.{Ending, at-ending, ending-of, ending-drop}
+use Rattle.json_grammar.specs.Places.{pos}
 use Rattle.json_grammar.specs.Reader.{Got, bad, got, over}
 pub use Rattle.json_grammar.specs.ReaderLaws.{fuel}
 use Rattle.json_string.specs.declared.End.{End}
@@ -17,6 +19,11 @@ Ends s from (At e) (got a r) = (from ≤ e) × (e ≤ length s) × (r ≡ drop e
 Ends s from (At e) bad = ⊥
 Ends s from Bad (got a r) = ⊥
 Ends s from Bad bad = Unit {0}
+
+-- that place
+abbrev pub endOf : {A : Type 0} → List ℕ → Got A → End
+endOf s (got a r) = At (pos s r)
+endOf s bad = Bad
 
 -- PLACES
 
@@ -35,7 +42,24 @@ left s at h = farther s at (at + 1) (omega arith) h
 pub shorter : (s : List ℕ) (i j n : ℕ) → i ≤ j → length (drop i s) ≤ n → length (drop j s) ≤ n
 shorter s i j n k h = rw (length-drop j s) (omega (arith, length-drop i s))
 
+-- the place of the bytes from i on
+pub pos-drop : (s : List ℕ) (i : ℕ) → i ≤ length s → pos s (drop i s) ≡ i
+unfolding pos
+pos-drop s i h = rw (length-drop i s) (omega arith)
+
+-- the place of what is left of the bytes from i on, when some are taken
+pub pos-left : (s : List ℕ) (i : ℕ) {x : List ℕ} → Ending (drop i s) x → length x < length (drop i s) → (i + 1 ≤ pos s x) × (pos s x ≤ length s) × (x ≡ drop (pos s x) s)
+unfolding pos
+pos-left s i {x} e h = let l = length-drop i s in (omega arith, omega arith, sym (at-ending (ending-of (ending-drop s i) e)))
+
 -- ENDS
+
+-- the relation and the equation
+pub ends-end : {A : Type 0} (s : List ℕ) (i : ℕ) (r : End) (g : Got A) → Ends s i r g → r ≡ endOf s g
+ends-end s i (At e) (got a x) h = ap At (sym (ap (pos s) (h .2) ∙ pos-drop s e (h .1)))
+ends-end s i (At e) bad h = absurd h
+ends-end s i Bad (got a x) h = absurd h
+ends-end s i Bad bad h = refl
 
 pub ends-at : {A : Type 0} (s : List ℕ) (i e : ℕ) (g : Got A) → Ends s i (At e) g → (a : A) × (g ≡ got a (drop e s)) × (i ≤ e) × (e ≤ length s)
 ends-at s i e (got a r) h = (a, ap (got a) (h .2), h .0, h .1)

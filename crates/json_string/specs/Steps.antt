@@ -7,7 +7,8 @@ use lib.ListN.{length, drop, take}
 use Rattle.common.specs.Same.{same}
 use Rattle.json_grammar.specs.Bytes.{within}
 use Rattle.json_grammar.specs.Reader.{Got, bad, got, one, char-by, charLead, escape-by, escapeLeadOf}
-use Rattle.json_string.specs.Strings.{Scans, textAt}
+use Rattle.json_string.specs.Characters.{Scans}
+use Rattle.json_string.specs.Strings.{textAt}
 use Rattle.json_string.specs.Utf8.{octets, utf8}
 use Rattle.json_string.specs.declared.End.{End}
 use Rattle.json_string.specs.declared.End.the-variants.{At, Bad}

@@ -1,4 +1,4 @@
--- What the public functions' contracts cite: characters and strings at places of a slice.
+-- What the public functions' contracts cite: strings at places of a slice.
 use mathlib.Core.Path.{_≡_}
 use mathlib.Core.Bool.{Bool, false, cond}
 use mathlib.Core.List.{List, [], _∷_}
@@ -7,35 +7,28 @@ use lib.Dec.{leb}
 use lib.ListN.{length, drop}
 use Rattle.common.specs.Buffer.{laid, cleared}
 use Rattle.common.specs.Same.{same}
-use Rattle.json_grammar.specs.Reader.{Got, bad, got, readChar, readChars}
-use Rattle.json_string.specs.Ends.{Ends}
+use Rattle.json_grammar.specs.Reader.{Got, bad, got, readChars}
+use Rattle.json_string.specs.Ends.{Ends, endOf}
 use Rattle.json_string.specs.Utf8.{utf8}
 use Rattle.json_string.specs.declared.End.{End}
-use Rattle.json_string.specs.declared.Scan.{Scan}
-use Rattle.json_string.specs.declared.Scan.the-variants.{Code, Wrong}
 use Rattle.json_string.specs.declared.Resolved.{Resolved}
 use Rattle.json_string.specs.declared.Resolved.the-variants.{Bytes, Nothing}
 
--- r is what a reader that starts at `from` gives: a code point and the place after it, or nothing
-abbrev pub Scans : List ℕ → ℕ → Scan → Got ℕ → Type 0
-Scans s from (Code c e) g = (from ≤ e) × (e ≤ length s) × (g ≡ got c (drop e s))
-Scans s from Wrong g = g ≡ bad
+-- the code points of the string whose first character is at p, and the bytes past its closing quotation mark; `bad` where no string stands
+unfoldable pub textAt : List ℕ → ℕ → Got (List ℕ)
+textAt s p = readChars (length (drop p s)) (drop p s)
 
--- r is the character at a place
-unfoldable pub CharAt : List ℕ → ℕ → Scan → Type 0
-CharAt s at r = Scans s (at + 1) r (readChar (drop at s))
+-- the end of the string whose first character is at `from`: the place after its closing quotation mark; nowhere where no string stands
+unfoldable pub stringEnd : List ℕ → ℕ → End
+stringEnd s from = endOf s (textAt s from)
 
--- r is the end of the string whose first character is at `from`: the place after its closing quotation mark
+-- r is that end: the same, for reasoning
 unfoldable pub StringEnds : List ℕ → ℕ → End → Type 0
 StringEnds s from r = (n : ℕ) → length (drop from s) ≤ n → Ends s from r (readChars n (drop from s))
 
 -- the characters cs and a quotation mark stand at p
 unfoldable pub NameAt : List ℕ → ℕ → List ℕ → Type 0
 NameAt s p cs = (n : ℕ) × (length (drop p s) ≤ n) × (r : List ℕ) × (readChars n (drop p s) ≡ got cs r)
-
--- the code points of the string whose first character is at p, and the bytes past its closing quotation mark; `bad` where no string stands
-unfoldable pub textAt : List ℕ → ℕ → Got (List ℕ)
-textAt s p = readChars (length (drop p s)) (drop p s)
 
 -- f of what was read; d where nothing was
 abbrev pub given : {A B : Type 0} → (A → B) → B → Got A → B
@@ -47,9 +40,9 @@ abbrev pub sameOf : Got (List ℕ) → Got (List ℕ) → Bool
 sameOf (got cs r) k = given (same cs) false k
 sameOf bad k = false
 
--- whether strings stand at p and at q, and have the same code points
-unfoldable pub sameText : List ℕ → ℕ → ℕ → Bool
-sameText s p q = sameOf (textAt s p) (textAt s q)
+-- whether strings stand at p in s and at q in t, and have the same code points
+unfoldable pub sameText : List ℕ → ℕ → List ℕ → ℕ → Bool
+sameText s p t q = sameOf (textAt s p) (textAt t q)
 
 -- one more code point in a fingerprint, by a multiplicative hash modulo 2^32
 abbrev pub mix : ℕ → ℕ → ℕ

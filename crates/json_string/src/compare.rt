@@ -11,17 +11,17 @@ use crate::strings::char_at;
 use crate::utf8::octets_of;
 use common::wide;
 
-// Whether strings stand at p and q, and have the same code points. Rules out a prefix taken for the whole, and strings compared as
+// Whether strings stand at p in s and at q in t, and have the same code points. Rules out a prefix taken for the whole, and strings compared as
 // they are written, before their escapes are resolved.
-pub fn same_text(s: &[u8], p: usize, q: usize) -> bool
-    ensures { λ r. ⌜ r ≡ sameText (now (s .entry)) p q ⌝ }
+pub fn same_text(s: &[u8], p: usize, t: &[u8], q: usize) -> bool
+    ensures { λ r. ⌜ r ≡ sameText (now (s .entry)) p (now (t .entry)) q ⌝ }
 {
     let mut i = p;
     let mut j = q;
     while i < s.len() {
-        if j < s.len() {
+        if j < t.len() {
             let a = s[i];
-            let b = s[j];
+            let b = t[j];
             if a == 0x22 {
                 return b == 0x22;
             }
@@ -31,7 +31,7 @@ pub fn same_text(s: &[u8], p: usize, q: usize) -> bool
             let Scan::Code(x, i2) = char_at(s, i) else {
                 return false;
             };
-            let Scan::Code(y, j2) = char_at(s, j) else {
+            let Scan::Code(y, j2) = char_at(t, j) else {
                 return false;
             };
             if x == y {
@@ -80,14 +80,14 @@ pub fn fingerprint(s: &[u8], p: usize) -> u32
     0
 }
 
-// Whether strings stand at p and q, of fingerprints f and g, and have the same code points. Rules out strings with one fingerprint
+// Whether strings stand at p in s and at q in t, of fingerprints f and g, and have the same code points. Rules out strings with one fingerprint
 // taken for different ones, and a string compared with itself.
-pub fn same_by_fingerprint(s: &[u8], p: usize, q: usize, f: u32, g: u32) -> bool
-    requires { ⌜ (f ≡ fingerprintAt (now s) p) × (g ≡ fingerprintAt (now s) q) ⌝ }
-    ensures { λ r. ⌜ r ≡ sameText (now (s .entry)) p q ⌝ }
+pub fn same_by_fingerprint(s: &[u8], p: usize, t: &[u8], q: usize, f: u32, g: u32) -> bool
+    requires { ⌜ (f ≡ fingerprintAt (now s) p) × (g ≡ fingerprintAt (now t) q) ⌝ }
+    ensures { λ r. ⌜ r ≡ sameText (now (s .entry)) p (now (t .entry)) q ⌝ }
 {
     if f == g {
-        return same_text(s, p, q);
+        return same_text(s, p, t, q);
     }
     false
 }

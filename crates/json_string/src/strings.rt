@@ -1,7 +1,7 @@
 // The character at a place, and the end of a string.
-ghost use Prim.Native.Nat.{_<_, _≤_};
-ghost use lib.ListN.{length};
-ghost use Rattle.json_string.specs.Strings.{CharAt, StringEnds};
+ghost use mathlib.Core.Path.{_≡_};
+ghost use Rattle.json_string.specs.Characters.{charAt};
+ghost use Rattle.json_string.specs.Strings.{stringEnd};
 use crate::End;
 use crate::Scan;
 use crate::classes::is_unescaped1;
@@ -9,11 +9,13 @@ use crate::escapes::escape;
 use crate::utf8::form;
 use common::wide;
 
-// The character at a place. Rules out an overlong form taken for a character, and an escape of small hexadecimal digits.
-pub(crate) fn char_at(s: &[u8], at: usize) -> Scan
-    requires { ⌜ at < length (now s) ⌝ }
-    ensures { λ r. ⌜ CharAt (now (s .entry)) at r ⌝ }
+// The character at a place, if one stands there. Rules out an overlong form taken for a character, and an escape of small hexadecimal digits.
+pub fn char_at(s: &[u8], at: usize) -> Scan
+    ensures { λ r. ⌜ r ≡ charAt (now (s .entry)) at ⌝ }
 {
+    if at >= s.len() {
+        return Scan::Wrong;
+    }
     let b = s[at];
     if is_unescaped1(b) {
         return Scan::Code(wide(b), at + 1);
@@ -24,11 +26,10 @@ pub(crate) fn char_at(s: &[u8], at: usize) -> Scan
     form(s, at + 1, b)
 }
 
-// The place after a string's closing quotation mark; `from` is the place after the opening one. Rules out an end at an escape, and
+// The place after a string's closing quotation mark, if one stands there; `from` is the place after the opening one. Rules out an end at an escape, and
 // the quotation mark's own place.
 pub fn string_end(s: &[u8], from: usize) -> End
-    requires { ⌜ from ≤ length (now s) ⌝ }
-    ensures { λ r. ⌜ StringEnds (now (s .entry)) from r ⌝ }
+    ensures { λ r. ⌜ r ≡ stringEnd (now (s .entry)) from ⌝ }
 {
     let mut at = from;
     while at < s.len() {

@@ -113,7 +113,7 @@ pub +arrays·array+arrays·elements+objects·after-name+objects·member+objects�
     (λ c. law.member-out _ (c .if1 .taken))
     (λ c. omega arith)
     (λ c. law.member-no-quote _ (c .before .before .if1 .left) (c .if2 .taken))
-    (λ c. omega arith) (λ c κs. omega arith) (λ c. search needs)
+    (λ c. omega arith) (λ c κs. tt) (λ c. search needs)
     (λ c κs. omega (arith, law.string-bounds _ _ _ (rw (c .before .q .given .1) at (c .before .before .before .string-end .ensures))))
     (λ c. search needs)
     (λ c. law.member-is _ (c .before .before .before .before .before .before .before .if1 .left) (c .before .before .before .before .before .if2 .left) (rw (c .before .before .q .given .1) at (c .before .before .before .before .string-end .ensures)) (c .after-name .ensures))
@@ -149,7 +149,7 @@ pub +arrays·array+arrays·elements+objects·after-name+objects·member+objects�
     (λ t. bare-lts.spec (string-end-reads.Asked, string-end-reads.Learnt, called 3 array.Pre t, array.Post, called 2 object.Pre t, object.Post, word-end-reads.Asked, word-end-reads.Learnt, number-end-reads.Asked, number-end-reads.Learnt)
     (entered 0 bare.Pre t)
     bare.Post
-    (λ c. omega arith) (λ c. omega arith) (λ c κs. omega arith)
+    (λ c. omega arith) (λ c. omega arith) (λ c κs. tt)
     (λ c. law.bare-string _ (c .before .before .before .before .pre .1) (c .before .if1 .taken) (c .string-end .ensures))
     (λ c. omega arith) (λ c κs. omega arith)
     (λ c. law.bare-array _ (c .before .before .before .before .before .pre .1) (c .before .if2 .taken) (c .array .ensures))

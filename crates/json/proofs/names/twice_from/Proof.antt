@@ -47,7 +47,7 @@ twice-from-spec =
     Inv-loop
     μ-loop
     loop-holds
-    (λ c. omega arith) (λ c. omega arith) (λ c κs. omega arith) (λ c. search needs)
+    (λ c. omega arith) (λ c. omega arith) (λ c κs. tt) (λ c. search needs)
     loop-less
     loop-again
     (λ c. search needs)

@@ -5,8 +5,9 @@ use Prim.Native.Nat.{_-_}
 use lib.ListN.{length}
 use borrow.Author.Needs.{needs}
 use Rattle.json_string.specs.Strings.{mixedAt, fingerprintAt}
-use Rattle.json_string.proofs.CharLaws.{scanned, char-after}
-use Rattle.json_string.proofs.TextLaws.{text-out, text-wrong, mixed-none, mixed-quote, mixed-step, mixed-plain}
+use Rattle.json_string.specs.CharacterLaws.{scanned, char-after}
+use Rattle.json_string.specs.TextLaws.{text-out, text-quote, text-wrong, text-step, text-plain}
+use Rattle.json_string.proofs.TextPaths.{mixed-none, mixed-all, mixed-on}
 use Rattle.json_string.proofs.compare.fingerprint.Statement.{statement}
 use Rattle.json_string.proofs.compare.fingerprint.Tie as tie
 
@@ -17,22 +18,29 @@ abbrev μ-loop : tie.MeasureT-loop
 μ-loop s p at₀ h₀ at h = length s - at
 
 loop-again : tie.Need-loop-again Inv-loop μ-loop
-loop-again c = mixed-plain _ _ _ (c .before .before .before .before .before .loop-test .taken) _ _ (sym (c .before .before .before .is-unescaped1 .ensures) ∙ c .before .before .if1 .taken) (c .before .wide .ensures .0) (c .mixed .ensures) ∙ c .before .before .before .before .before .before .loop .inv
+loop-again c =
+    let l = c .before .before .before .before .before in
+    mixed-on _ _ _ _ _ _ (text-plain _ _ (l .loop-test .taken) _ (sym (c .before .before .before .is-unescaped1 .ensures) ∙ c .before .before .if1 .taken) (c .before .wide .ensures .0)) (c .mixed .ensures)
+    ∙ l .before .loop .inv
 
 returns : tie.Need-returns Inv-loop μ-loop
-returns c = mixed-quote _ _ _ (c .before .before .before .before .loop-test .taken) (c .if2 .taken) ∙ c .before .before .before .before .before .loop .inv
-
-char-at-requires : tie.Need-char-at-requires Inv-loop μ-loop
-char-at-requires c κs = c .before .before .before .before .loop-test .taken
+returns c = let l = c .before .before .before .before in mixed-all _ _ _ (text-quote _ _ (l .loop-test .taken) (c .if2 .taken)) ∙ l .before .loop .inv
 
 returns-2 : tie.Need-returns-2 Inv-loop μ-loop
-returns-2 c = mixed-none _ _ _ (text-wrong _ _ (c .before .before .before .before .before .before .before .loop-test .taken) (c .before .before .before .if2 .left) (scanned _ _ _ _ (c .before .before .char-at .ensures) (c .enum-told .given .1))) ∙ c .before .before .before .before .before .before .before .before .loop .inv
+returns-2 c =
+    let q = c .before .before .before in
+    let l = q .before .before .before .before in
+    mixed-none _ _ _ (text-wrong _ _ (l .loop-test .taken) (q .if2 .left) (scanned _ _ _ _ (c .before .before .char-at .ensures) (c .enum-told .given .1))) ∙ l .before .loop .inv
 
 loop-less-2 : tie.Need-loop-less-2 Inv-loop μ-loop
 loop-less-2 c = omega (arith, c .before .before .before .before .before .before .before .before .before .loop-test .taken, char-after _ _ _ _ (scanned _ _ _ _ (c .before .before .before .before .char-at .ensures) (c .before .before .c .given .1)))
 
 loop-again-2 : tie.Need-loop-again-2 Inv-loop μ-loop
-loop-again-2 c = let x = scanned _ _ _ _ (c .before .before .before .before .char-at .ensures) (c .before .before .c .given .1) in mixed-step _ _ _ (c .before .before .before .before .before .before .before .before .before .loop-test .taken) (c .before .before .before .before .before .if2 .left) _ _ _ x (c .mixed2 .ensures) ∙ c .before .before .before .before .before .before .before .before .before .before .loop .inv
+loop-again-2 c =
+    let q = c .before .before .before .before .before in
+    let l = q .before .before .before .before in
+    mixed-on _ _ _ _ _ _ (text-step _ _ (l .loop-test .taken) (q .if2 .left) _ _ (scanned _ _ _ _ (c .before .before .before .before .char-at .ensures) (c .before .before .c .given .1))) (c .mixed2 .ensures)
+    ∙ l .before .loop .inv
 
 returns-3 : tie.Need-returns-3 Inv-loop μ-loop
 returns-3 c = mixed-none _ _ _ (text-out _ _ (c .loop-test .left)) ∙ c .before .loop .inv
@@ -46,8 +54,7 @@ fingerprint-spec =
     (λ c. refl) (λ c. omega arith) (λ c κs. tt) (λ c κs. tt) (λ c κs. tt) (λ c. omega arith) (λ c. omega arith)
     loop-again
     returns
-    char-at-requires
-    (λ c. search needs) (λ c. search needs)
+    (λ c κs. tt) (λ c. search needs) (λ c. search needs)
     returns-2
     (λ c κs. tt)
     loop-less-2

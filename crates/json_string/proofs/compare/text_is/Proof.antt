@@ -5,8 +5,9 @@ use lib.ListN.{length, drop}
 use mathlib.Core.Path.{_≡_, refl, _∙_}
 use borrow.Author.Needs.{needs}
 use Rattle.json_string.specs.Strings.{textIs}
-use Rattle.json_string.proofs.CharLaws.{scanned, char-after, char-most}
-use Rattle.json_string.proofs.TextLaws.{text-out, text-wrong, word-ended, word-after, is-none, is-quote, is-step, is-differ}
+use Rattle.json_string.specs.CharacterLaws.{scanned, char-after, char-most}
+use Rattle.json_string.specs.TextLaws.{text-out, text-wrong}
+use Rattle.json_string.proofs.TextPaths.{word-ended, word-after, is-none, is-quote, is-step, is-differ}
 use Rattle.json_string.proofs.compare.text_is.Statement.{statement}
 use Rattle.json_string.proofs.compare.text_is.Tie as tie
 
@@ -24,9 +25,6 @@ shared-slice-read-if1 c = c .before .loop-test .taken
 
 returns : tie.Need-returns Inv-loop μ-loop
 returns c = is-quote _ _ _ _ (c .before .before .loop-test .taken) (c .if1 .taken) (c .before .before .before .loop .inv .0) ∙ c .before .before .before .loop .inv .1
-
-char-at-requires : tie.Need-char-at-requires Inv-loop μ-loop
-char-at-requires c κs = c .before .before .loop-test .taken
 
 returns-2 : tie.Need-returns-2 Inv-loop μ-loop
 returns-2 c = is-none _ _ _ (text-wrong _ _ (c .before .before .before .before .before .loop-test .taken) (c .before .before .before .if1 .left) (scanned _ _ _ _ (c .before .before .char-at .ensures) (c .enum-told .given .1))) ∙ c .before .before .before .before .before .before .loop .inv .1
@@ -58,8 +56,7 @@ text-is-spec =
     loop-holds
     shared-slice-read-if1
     returns
-    char-at-requires
-    (λ c. search needs) (λ c. search needs)
+    (λ c κs. tt) (λ c. search needs) (λ c. search needs)
     returns-2
     octets-end-requires
     (λ c. search needs) (λ c. search needs)

@@ -8,9 +8,9 @@ use lib.Seq.{paste}
 use Rattle.json_string.specs.declared.End.{End}
 use Rattle.json_string.specs.Utf8.{octets}
 use Rattle.json_string.specs.Steps.{Writes}
-use Rattle.json_string.proofs.CharLaws.{scanned, char-after, char-most}
+use Rattle.json_string.specs.CharacterLaws.{scanned, char-after, char-most}
+use Rattle.json_string.specs.TextLaws.{text-out, text-wrong}
 use Rattle.json_string.proofs.OctetLaws.{prefix-fits}
-use Rattle.json_string.proofs.TextLaws.{text-out, text-wrong}
 use Rattle.json_string.proofs.WriteLaws.{Front, front-none, front-more, front-writes, writes-none, writes-quote, too-long, writes-long, writes-more}
 use borrow.Author.Needs.{needs}
 use Rattle.json_string.proofs.resolving.write.Statement.{statement}
@@ -33,9 +33,6 @@ same-length c = c .before .before .before .loop .inv .0 .same
 
 returns : tie.Need-returns Inv-loop μ-loop
 returns c = c .before .before .before .loop .inv .1 _ _ (writes-quote _ _ (c .before .before .loop-test .taken) _ _ _ (c .if1 .taken) (c .before .before .before .loop .inv .0))
-
-char-at-requires : tie.Need-char-at-requires Inv-loop μ-loop
-char-at-requires c κs = c .before .before .loop-test .taken
 
 same-length-2 : tie.Need-same-length-2 Inv-loop μ-loop
 same-length-2 c = c .before .before .before .before .before .before .loop .inv .0 .same
@@ -98,8 +95,7 @@ write-spec =
     shared-slice-read-if1
     same-length
     returns
-    char-at-requires
-    (λ c. search needs) (λ c. search needs)
+    (λ c κs. tt) (λ c. search needs) (λ c. search needs)
     same-length-2
     returns-2
     octets-of-requires
