@@ -24,7 +24,7 @@ ofReading h rules = map (λ n. n on ((t : Derivation) × (bytes t ≡ h) × cond
 
 -- the grammar's rules, and those of the known members
 abbrev pub heading : List ℕ → List Key → List Rule
-heading h ks = grammarRules h ++ ofReading h (λ ms. known ms ks)
+heading h ks = grammarRules deepest h ++ ofReading h (λ ms. known ms ks)
 
 -- WHAT A HEADER DECIDES
 

@@ -105,7 +105,7 @@ raw-one h n (lcons (named f t m v) ms) u p r =
 module _ (h : List ℕ) (ks : List Key) (distinct : Distinct ks) where
   -- each test decides its condition where no earlier one holds
   pub heading-agree : Agree (heading h ks) (headingTests h ks)
-  heading-agree = agree-append (grammar-agree h) (λ n. let t = derivation h (n .0) in go (t .0) (t .1) (t .2) (λ w. n .1 .0 (t .0, t .1, w)))
+  heading-agree = agree-append (grammar-agree deepest h) (λ n. let t = derivation deepest h (n .0) in go (t .0) (t .1) (t .2) (λ w. n .1 .0 (t .0, t .1, w)))
     where
       go : (t : Derivation) → bytes t ≡ h → depthOf t ≤ deepest → (TwiceNamed (objectV (readingOf t)) → ⊥)
           → Agree (ofReading h (λ ms. known ms ks)) (knownTests (reading h) ks)
@@ -115,10 +115,10 @@ module _ (h : List ℕ) (ks : List Key) (distinct : Distinct ks) where
   pub header-chooses : NoneOf (heading h ks) → HeaderChooses h ks (headerChoice h ks)
   unfolding headerChoice
   header-chooses n =
-      let g = none-left (grammarRules h) (ofReading h (λ ms. known ms ks)) n in
-      let t = derivation h (g .0) in
+      let g = none-left (grammarRules deepest h) (ofReading h (λ ms. known ms ks)) n in
+      let t = derivation deepest h (g .0) in
       let u : TwiceNamed (objectV (readingOf (t .0))) → ⊥ = λ w. g .1 .0 (t .0, t .1, w) in
-      let r = none-alike (alike-back (alike h ks (t .0) (t .1))) (none-right (grammarRules h) (ofReading h (λ ms. known ms ks)) n) in
+      let r = none-alike (alike-back (alike h ks (t .0) (t .1))) (none-right (grammarRules deepest h) (ofReading h (λ ms. known ms ks)) n) in
       let at = located-is (t .0) (t .1) (t .2) in
       record {
         derivation = t .0;

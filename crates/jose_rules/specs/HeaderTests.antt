@@ -22,7 +22,7 @@ abbrev pub reading : List ℕ → Members
 reading h = plainMembers (located h)
 
 abbrev pub headingTests : List ℕ → List Key → List Test
-headingTests h ks = grammarTests h ++ knownTests (reading h) ks
+headingTests h ks = grammarTests deepest h ++ knownTests (reading h) ks
 
 -- the place of the value of the first member with the name n
 unfoldable pub rawText : List ℕ → List ℕ → LMembers → Place

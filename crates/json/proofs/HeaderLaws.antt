@@ -22,35 +22,39 @@ use Rattle.json_members.specs.StepLaws.{top-members}
 use Rattle.json.specs.declared.answer.Member.{Member}
 use Rattle.json.specs.declared.answer.Member.the-variants.{Refused}
 use Rattle.json.specs.Twice.{TwiceFrom}
-use Rattle.json.specs.Answers.{longest, deepest, membersIn, twiceIn, headerTests, checked, shownBy, answerFor, unlessRefused, memberOf, Picks}
+use Rattle.json.specs.Answers.{longest, deepest, membersIn, twiceIn, grammarTests, headerTests, checked, shownBy, answerFor, unlessRefused, memberOf, Picks}
 use Rattle.json.specs.AnswerLaws.{text-read, checked-read}
 
 -- THE HEADER'S ANSWER
+
+module _ (d : ℕ) (s : List ℕ) where
+  pub text-other : {b : Bool} → b ≡ isText d s → b ≡ false → 7 ≡ first (grammarTests d s)
+  unfolding isText
+  text-other e f = rw (sym e ∙ f)
+
+  module _ {b t : Bool} (e : b ≡ isText d s) (f : b ≡ true) (w : TwiceFrom s 0 d t) where
+    twice-is : first (grammarTests d s) ≡ first (8 when t ∷ [])
+    unfolding isText
+    twice-is =
+        let r = text-read d s (sym e ∙ f) in
+        let z : twiceIn (membersIn (read d s)) ≡ t =
+        ap (λ (g : Got LMembers). twiceIn (membersIn g)) (r .2) ∙ sym (scan-read (length s) d d s (r .0) (r .1) (r .2) (omega arith) (omega arith))
+        ∙ sym (w .is (length s) (omega arith)) in
+        rw (sym e ∙ f, z)
+
+    pub text-twice : t ≡ true → 8 ≡ first (grammarTests d s)
+    text-twice c = sym (twice-is ∙ ap (λ (x : Bool). first (8 when x ∷ [])) c)
+
+    pub text-fine : t ≡ false → 0 ≡ first (grammarTests d s)
+    text-fine c = sym (twice-is ∙ ap (λ (x : Bool). first (8 when x ∷ [])) c)
 
 pub check-long : (h : List ℕ) → longest < length h → 5 ≡ checked h
 unfolding checked headerTests
 check-long h k = rw (lt-ltb longest (length h) k)
 
-module _ (h : List ℕ) (k : length h ≤ longest) where
-  pub check-other : {b : Bool} → b ≡ isText deepest h → b ≡ false → 7 ≡ checked h
-  unfolding checked headerTests isText
-  check-other e f = rw (le-ltb longest (length h) k, sym e ∙ f)
-
-  module _ {b t : Bool} (e : b ≡ isText deepest h) (f : b ≡ true) (w : TwiceFrom h 0 deepest t) where
-    check-text : checked h ≡ first (8 when t ∷ [])
-    unfolding checked headerTests isText
-    check-text =
-        let r = text-read deepest h (sym e ∙ f) in
-        let z : twiceIn (membersIn (read deepest h)) ≡ t =
-        ap (λ (g : Got LMembers). twiceIn (membersIn g)) (r .2) ∙ sym (scan-read (length h) deepest deepest h (r .0) (r .1) (r .2) (omega arith) (omega arith))
-        ∙ sym (w .is (length h) (omega arith)) in
-        rw (le-ltb longest (length h) k, sym e ∙ f, z)
-
-    pub check-twice : t ≡ true → 8 ≡ checked h
-    check-twice c = sym (check-text ∙ ap (λ (x : Bool). first (8 when x ∷ [])) c)
-
-    pub check-fine : t ≡ false → 0 ≡ checked h
-    check-fine c = sym (check-text ∙ ap (λ (x : Bool). first (8 when x ∷ [])) c)
+pub check-short : (h : List ℕ) → length h ≤ longest → {n : ℕ} → n ≡ first (grammarTests deepest h) → n ≡ checked h
+unfolding checked headerTests
+check-short h k e = rw (le-ltb longest (length h) k) e
 
 -- THE TOP OBJECT
 

@@ -33,12 +33,13 @@ membersIn (got ms r) = ms
 abbrev pub twiceIn : LMembers → Bool
 twiceIn ms = twice (objectV (plainMembers ms))
 
--- 7: not derived within the depth; 8: one object has a name twice; and before them 5: longer than 1,024 bytes
-abbrev pub grammarTests : List ℕ → List Test
-grammarTests h = 7 when not (isGot (read deepest h)) ∷ 8 when twiceIn (membersIn (read deepest h)) ∷ []
+-- 7: not derived within the depth; 8: one object has a name twice
+abbrev pub grammarTests : ℕ → List ℕ → List Test
+grammarTests d h = 7 when not (isGot (read d h)) ∷ 8 when twiceIn (membersIn (read d h)) ∷ []
 
+-- 5: longer than 1,024 bytes; then those of the text, within the greatest depth
 unfoldable pub headerTests : List ℕ → List Test
-headerTests h = 5 when ltb longest (length h) ∷ grammarTests h
+headerTests h = 5 when ltb longest (length h) ∷ grammarTests deepest h
 
 unfoldable pub checked : List ℕ → ℕ
 checked h = first (headerTests h)

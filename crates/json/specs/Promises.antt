@@ -42,17 +42,17 @@ abbrev pub NoMember : List ℕ → ℕ → Type 0
 NoMember h k = (t : Derivation) × (bytes t ≡ h) × (count (readingOf t) ≤ k)
 
 -- the grammar's rules
-abbrev pub grammarRules : List ℕ → List Rule
-grammarRules h =
+abbrev pub grammarRules : ℕ → List ℕ → List Rule
+grammarRules d h =
     -- "header isn't derived by the grammar, or nests too deep"
-    7 on (Derived deepest h → ⊥)
+    7 on (Derived d h → ⊥)
     -- "one object has a name twice"
     ∷ 8 on NameTwice h
     ∷ []
 
 -- .. after "header longer than 1,024 bytes"
 abbrev pub headerRules : List ℕ → List Rule
-headerRules h = 5 on (longest < length h) ∷ grammarRules h
+headerRules h = 5 on (longest < length h) ∷ grammarRules deepest h
 
 abbrev pub memberRules : List ℕ → ℕ → List Rule
 memberRules h k = headerRules h ++ (16 on NoMember h k ∷ [])
@@ -76,37 +76,37 @@ past-last h lnil k = holds (omega arith)
 past-last h (lcons (named f t n v) ms) zero = fails (λ c. omega arith)
 past-last h (lcons (named f t n v) ms) (suc k) = decides-iff (λ c. omega arith) (λ c. omega arith) (past-last h ms k)
 
-module _ (h : List ℕ) (t : Derivation) (p : bytes t ≡ h) (l : depthOf t ≤ deepest) where
-  reading-in : plainMembers (membersIn (read deepest h)) ≡ readingOf t
-  reading-in = ap (λ (g : Got LMembers). plainMembers (membersIn g)) (derived-read deepest h t p l) ∙ plain-of t
+module _ (d : ℕ) (h : List ℕ) (t : Derivation) (p : bytes t ≡ h) (l : depthOf t ≤ d) where
+  reading-in : plainMembers (membersIn (read d h)) ≡ readingOf t
+  reading-in = ap (λ (g : Got LMembers). plainMembers (membersIn g)) (derived-read d h t p l) ∙ plain-of t
 
-  twice-decides : Decides (NameTwice h) (twiceIn (membersIn (read deepest h)))
+  twice-decides : Decides (NameTwice h) (twiceIn (membersIn (read d h)))
   twice-decides =
       decides-iff
       (λ e. (t, p, subst (λ (ms : Members). TwiceNamed (objectV ms)) reading-in e))
       (λ u. subst (λ (ms : Members). TwiceNamed (objectV ms)) (sym (reading-in ∙ one-reading t (u .0) (p ∙ sym (u .1)))) (u .2))
-      (decides-twice (objectV (plainMembers (membersIn (read deepest h)))))
+      (decides-twice (objectV (plainMembers (membersIn (read d h)))))
 
-  member-decides : (k : ℕ) → Decides (NoMember h k) (missing (member h k (membersIn (read deepest h))))
+  member-decides : (k : ℕ) → Decides (NoMember h k) (missing (member h k (membersIn (read d h))))
   member-decides k =
       decides-iff
       (λ c. (t, p, subst (λ (ms : Members). count ms ≤ k) reading-in c))
       (λ u. subst (λ (ms : Members). count ms ≤ k) (sym (reading-in ∙ one-reading t (u .0) (p ∙ sym (u .1)))) (u .2))
-      (past-last h (membersIn (read deepest h)) k)
+      (past-last h (membersIn (read d h)) k)
 
--- a header that is not refused by 7 has a derivation within the depth
-pub derivation : (h : List ℕ) → ((Derived deepest h → ⊥) → ⊥) → Derived deepest h
-derivation h n = stable (read-decides deepest h) n
+-- a text that is not refused by 7 has a derivation within the depth
+pub derivation : (d : ℕ) (h : List ℕ) → ((Derived d h → ⊥) → ⊥) → Derived d h
+derivation d h n = stable (read-decides d h) n
 
-pub grammar-agree : (h : List ℕ) → Agree (grammarRules h) (grammarTests h)
-grammar-agree h = decides-not (read-decides deepest h) by λ n. (let t = derivation h n in twice-decides h (t .0) (t .1) (t .2)) by λ _. done
+pub grammar-agree : (d : ℕ) (h : List ℕ) → Agree (grammarRules d h) (grammarTests d h)
+grammar-agree d h = decides-not (read-decides d h) by λ n. (let t = derivation d h n in twice-decides d h (t .0) (t .1) (t .2)) by λ _. done
 
 header-agree : (h : List ℕ) → Agree (headerRules h) (headerTests h)
 unfolding headerTests
-header-agree h = decides-lt longest (length h) by λ _. grammar-agree h
+header-agree h = decides-lt longest (length h) by λ _. grammar-agree deepest h
 
 member-agree : (h : List ℕ) (k : ℕ) → Agree (memberRules h k) (memberTests h k)
-member-agree h k = agree-append (header-agree h) λ n. (let t = derivation h (n .1 .0) in member-decides h (t .0) (t .1) (t .2) k) by λ _. done
+member-agree h k = agree-append (header-agree h) λ n. (let t = derivation deepest h (n .1 .0) in member-decides deepest h (t .0) (t .1) (t .2) k) by λ _. done
 
 -- THE FIRST REFUSAL STANDS
 
@@ -222,7 +222,7 @@ too-long h l k = refused h 4 (header-first h 5 refl .1 (l, tt)) k
 
 -- a header that no rule refuses
 derived-once : (h : List ℕ) → NoneOf (headerRules h) → DerivedOnce h
-derived-once h n = let t = derivation h (n .1 .0) in (t .0, t .1, t .2, λ e. n .1 .1 .0 (t .0, t .1, e))
+derived-once h n = let t = derivation deepest h (n .1 .0) in (t .0, t .1, t .2, λ e. n .1 .1 .0 (t .0, t .1, e))
 
 module _ (h : List ℕ) (l : length h ≤ longest) where
   short : longest < length h → ⊥

@@ -11,28 +11,37 @@ ghost use mathlib.Core.Path.{_≡_};
 ghost use Prim.Native.Nat.{_<_};
 ghost use lib.ListN.{length};
 ghost use Rattle.json_members.specs.Members.{kindIn};
-ghost use Rattle.json.specs.Answers.{checked, shownBy, memberOf, Picks};
+ghost use Rattle.common.specs.First.{first};
+ghost use Rattle.json.specs.Answers.{grammarTests, checked, shownBy, memberOf, Picks};
 
 // The greatest length of a header, and the greatest depth, in which the top object is 1.
 pub const LONGEST: usize = 1024;
 
 pub const DEEPEST: usize = 8;
 
-// What a header answers: 0 if it is read; 5 if it is too long; 7 if it isn't derived by the grammar, or nests too deep; 8 if one object has a name twice.
+// What a text of any length answers within the depth: 0 if it is read; 7 if it isn't derived by the grammar, or nests too deep; 8 if one object has a name twice.
 // Rules out 8 for a text that breaks off after two equal names, and 0 for two names that are equal after their escapes are resolved.
+pub fn check_text(s: &[u8], depth: usize) -> u8
+    ensures { λ r. ⌜ r ≡ first (grammarTests depth (now (s .entry))) ⌝ }
+{
+    if text(s, depth) {
+        if twice_from(s, 0, depth) {
+            return 8;
+        }
+        return 0;
+    }
+    7
+}
+
+// What a header answers: 5 if it is too long; else what its text answers within the greatest depth.
+// Rules out 7 for a header that is too long, and 0 for one of 1,025 bytes.
 pub fn check(header: &[u8]) -> u8
     ensures { λ r. ⌜ r ≡ checked (now (header .entry)) ⌝ }
 {
     if LONGEST < header.len() {
         return 5;
     }
-    if text(header, DEEPEST) {
-        if twice_from(header, 0, DEEPEST) {
-            return 8;
-        }
-        return 0;
-    }
-    7
+    check_text(header, DEEPEST)
 }
 
 // A member by the kind of its value.

@@ -7,6 +7,7 @@ pub use answer::Member;
 pub use header::DEEPEST;
 pub use header::LONGEST;
 pub use header::check;
+pub use header::check_text;
 pub use header::member;
 pub use json_members::Kind;
 pub use json_members::Place;
