@@ -22,12 +22,12 @@ use Rattle.json_string.specs.StringLaws.{name-resolved, name-resolved-to}
 use Rattle.json_string.specs.Utf8.{utf8}
 use Rattle.json_members.specs.declared.places.Kind.{Kind}
 use Rattle.json_members.specs.declared.places.Place.{Place as Span}
-use Rattle.keytable.specs.declared.Found.{Found}
-use Rattle.keytable.specs.declared.Found.the-variants.{Nothing}
-use Rattle.keytable.specs.Key.{Key, key, none as no-key, find, only, allowsHS256, allowsFormat}
-use Rattle.keytable.specs.KeyLaws.{finds, finds-one}
-use Rattle.keytable.specs.Table.{badTable, keys, idMost}
-use Rattle.keytable.specs.GoodKeys.{keys-good}
+use Rattle.keytable_rules.specs.declared.Found.{Found}
+use Rattle.keytable_rules.specs.declared.Found.the-variants.{Nothing}
+use Rattle.keytable_rules.specs.Key.{Key, key, none as no-key, find, only, allowsHS256, allowsFormat}
+use Rattle.keytable_rules.specs.KeyLaws.{finds, finds-one}
+use Rattle.keytable_rules.specs.Table.{badTable, keys, idMost}
+use Rattle.keytable_rules.specs.GoodKeys.{keys-good}
 use Rattle.jose_rules.specs.declared.Choice.{Choice}
 use Rattle.jose_rules.specs.declared.Decision.the-variants.{Refused, Chosen}
 use Rattle.jose.specs.declared.members.Slot.the-variants.{Absent, Is}

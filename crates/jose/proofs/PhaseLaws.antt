@@ -8,8 +8,8 @@ use native.Mathlib.Omega.{arith}
 use Rattle.common.specs.First.{Test, first, first-within, first-after}
 use Rattle.json_grammar.specs.Value.{Members}
 use Rattle.json.specs.Answers.{headerTests, checked}
-use Rattle.keytable.specs.Key.{Key}
-use Rattle.keytable.specs.Table.{badTable, keys}
+use Rattle.keytable_rules.specs.Key.{Key}
+use Rattle.keytable_rules.specs.Table.{badTable, keys}
 use Rattle.jose_rules.specs.declared.Decision.{Decision}
 use Rattle.jose_rules.specs.declared.Decision.the-variants.{Refused}
 use Rattle.jose_rules.specs.Header.{HeaderChoice}

@@ -18,8 +18,8 @@ use Rattle.json_members.specs.declared.places.Place.{Place as Span}
 use Rattle.json_members.specs.declared.steps.Entry.{Entry}
 use Rattle.json_members.specs.Members.{MembersAt, ElementsAt, ValueIs, kindIn}
 use Rattle.json.specs.Answers.{deepest, kindNumber}
-use Rattle.keytable.specs.declared.Found.{Found}
-use Rattle.keytable.specs.Key.{Key, find, key, allowsHS256}
+use Rattle.keytable_rules.specs.declared.Found.{Found}
+use Rattle.keytable_rules.specs.Key.{Key, find, key, allowsHS256}
 use Rattle.jose_rules.specs.declared.Choice.{Choice}
 use Rattle.jose_rules.specs.declared.Decision.{Decision}
 use Rattle.jose_rules.specs.declared.Place.{Place}

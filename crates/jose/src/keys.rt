@@ -2,7 +2,7 @@
 ghost use mathlib.Core.Path.{_≡_};
 ghost use mathlib.Core.Bool.{false};
 ghost use mathlib.Core.Option.{some};
-ghost use Rattle.keytable.specs.Table.{badTable, keys};
+ghost use Rattle.keytable_rules.specs.Table.{badTable, keys};
 ghost use Rattle.jose_rules.specs.HeaderTests.{reading};
 ghost use Rattle.jose_rules.specs.Names.{alg, kid};
 ghost use Rattle.jose.specs.Slots.{Stands, Located, rawOf, otherAlgorithm, StringAt, KeyNamed, smallOf, choiceBy, keyDecision};

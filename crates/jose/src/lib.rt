@@ -7,7 +7,7 @@ mod keys; // keys.rt: rules 11 to 14, the algorithm, the key and what it allows;
 
 ghost use mathlib.Core.Path.{_≡_};
 ghost use mathlib.Core.Bool.{false};
-ghost use Rattle.keytable.specs.Table.{badTable, keys};
+ghost use Rattle.keytable_rules.specs.Table.{badTable, keys};
 ghost use Rattle.jose_rules.specs.Decision.{decisionWith, decision};
 ghost use Rattle.jose_rules.specs.HeaderTests.{reading};
 ghost use Rattle.jose_rules.specs.Only.{absent};

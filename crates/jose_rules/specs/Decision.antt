@@ -5,8 +5,8 @@ use lib.Dec.{ltb}
 use lib.ListN.{length}
 use Rattle.common.specs.First.{Test, _when_, first}
 use Rattle.json.specs.Answers.{longest}
-use Rattle.keytable.specs.Key.{Key}
-use Rattle.keytable.specs.Table.{badTable, keys}
+use Rattle.keytable_rules.specs.Key.{Key}
+use Rattle.keytable_rules.specs.Table.{badTable, keys}
 use Rattle.jose_rules.specs.declared.Choice.{Choice}
 use Rattle.jose_rules.specs.declared.Decision.{Decision}
 use Rattle.jose_rules.specs.declared.Decision.the-variants.{Refused, Chosen}

@@ -9,11 +9,11 @@ use lib.ListN.{length}
 use Rattle.common.specs.First.{_when_, first, all-pass}
 use Rattle.json_grammar.specs.Value.{Value, Members}
 use Rattle.json_string.specs.Utf8.{utf8}
-use Rattle.keytable.specs.declared.Found.{Found}
-use Rattle.keytable.specs.declared.Found.the-variants.{At, Nothing}
-use Rattle.keytable.specs.Key.{Key, find, only}
-use Rattle.keytable.specs.KeyLaws.{found, only-found}
-use Rattle.keytable.specs.Table.{badTable, keys}
+use Rattle.keytable_rules.specs.declared.Found.{Found}
+use Rattle.keytable_rules.specs.declared.Found.the-variants.{At, Nothing}
+use Rattle.keytable_rules.specs.Key.{Key, find, only}
+use Rattle.keytable_rules.specs.KeyLaws.{found, only-found}
+use Rattle.keytable_rules.specs.Table.{badTable, keys}
 use Rattle.jose_rules.specs.declared.Choice.{Choice}
 use Rattle.jose_rules.specs.declared.Decision.{Decision}
 use Rattle.jose_rules.specs.declared.Decision.the-variants.{Refused, Chosen}

@@ -10,7 +10,7 @@ use Rattle.json_grammar.specs.Value.{Value, Values, Members, stringV, numberV, 
 use Rattle.json_string.specs.Utf8.{utf8, octets}
 use Rattle.decimal.specs.Integer.{integerOf, allDigits, after}
 use Rattle.common.specs.Same.{same}
-use Rattle.keytable.specs.Key.{Key, find, only, allowsHS256, allowsFormat}
+use Rattle.keytable_rules.specs.Key.{Key, find, only, allowsHS256, allowsFormat}
 use Rattle.common.specs.Ascii.{ascii}
 use Rattle.jose_rules.specs.Names.{alg, kid, typ, cty, crit, fmt, HS256}
 use Rattle.jose_rules.specs.Members.{stringsIn}

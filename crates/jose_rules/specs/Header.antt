@@ -11,7 +11,7 @@ use Rattle.json_grammar.specs.Places.{Member, placed}
 use Rattle.json_grammar.specs.Grammar.{Derivation, bytes, readingOf, depthOf, membersOf}
 use Rattle.json.specs.Answers.{deepest}
 use Rattle.json.specs.Promises.{grammarRules}
-use Rattle.keytable.specs.Key.{Key}
+use Rattle.keytable_rules.specs.Key.{Key}
 use Rattle.jose_rules.specs.declared.Place.{Place}
 use Rattle.jose_rules.specs.Names.{typ, cty}
 use Rattle.jose_rules.specs.Rules.{known, Choice, Chooses}

@@ -7,7 +7,7 @@ use Rattle.json_grammar.specs.Bytes.{within, isWs, isHex, allHex, hex4}
 use Rattle.json_grammar.specs.Value.{plain, plainMembers}
 use Rattle.json_grammar.specs.Places.{kindOf, pos, margin, placed}
 use Rattle.json_grammar.specs.Reader.{skip, isUnescaped1, charLead, escapeLeadOf, readChar, readChars, valueLead, readValue, read}
-use Rattle.keytable.specs.Key.{only}
+use Rattle.keytable_rules.specs.Key.{only}
 use Rattle.common.specs.Ascii.{ascii}
 use Rattle.jose_rules.specs.Names.{alg, kid, typ, cty, crit, fmt}
 use Rattle.jose_rules.specs.Tests.{lookup, chosen, format, choice}

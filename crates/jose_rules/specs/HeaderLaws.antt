@@ -19,7 +19,7 @@ use Rattle.json_grammar.specs.Unique.{one-reading}
 use Rattle.json_grammar.specs.Written.{derived-bytes}
 use Rattle.json.specs.Answers.{deepest, membersIn}
 use Rattle.json.specs.Promises.{grammarRules, derivation, grammar-agree}
-use Rattle.keytable.specs.Key.{Key, Distinct}
+use Rattle.keytable_rules.specs.Key.{Key, Distinct}
 use Rattle.jose_rules.specs.declared.Place.{Place}
 use Rattle.jose_rules.specs.Names.{typ, cty}
 use Rattle.jose_rules.specs.Members.{Has}

@@ -8,7 +8,7 @@ use Rattle.json_grammar.specs.Value.{Members, LMembers, lnil, lcons, plainMembe
 use Rattle.json_grammar.specs.Places.{placed}
 use Rattle.json_grammar.specs.Reader.{read}
 use Rattle.json.specs.Answers.{deepest, membersIn, grammarTests}
-use Rattle.keytable.specs.Key.{Key}
+use Rattle.keytable_rules.specs.Key.{Key}
 use Rattle.jose_rules.specs.declared.Place.{Place}
 use Rattle.jose_rules.specs.Names.{typ, cty}
 use Rattle.jose_rules.specs.Tests.{knownTests, choice}

@@ -14,10 +14,10 @@ use Rattle.common.specs.First.{Decides, holds, fails, Agree, done, _by_, decide
 use Rattle.json_grammar.specs.Value.{Value, Members, objectV, mnil, mcons, among as amongNames, repeated, names}
 use Rattle.json_grammar.specs.Twice.{ObjectIn, TwiceNamed, decides-repeated}
 use Rattle.json_string.specs.Utf8.{utf8}
-use Rattle.keytable.specs.declared.Found.{Found}
-use Rattle.keytable.specs.declared.Found.the-variants.{At, Nothing}
-use Rattle.keytable.specs.Key.{Key, key, Distinct, Named, find, only, allowsHS256, allowsFormat}
-use Rattle.keytable.specs.KeyLaws.{found, not-found, find-is}
+use Rattle.keytable_rules.specs.declared.Found.{Found}
+use Rattle.keytable_rules.specs.declared.Found.the-variants.{At, Nothing}
+use Rattle.keytable_rules.specs.Key.{Key, key, Distinct, Named, find, only, allowsHS256, allowsFormat}
+use Rattle.keytable_rules.specs.KeyLaws.{found, not-found, find-is}
 use Rattle.common.specs.Decided.{when-false, decided, decides-false, test-false}
 use Rattle.common.specs.Same.{same, decides-same}
 use Rattle.jose_rules.specs.Names.{alg, kid, typ, cty, crit, fmt, HS256}

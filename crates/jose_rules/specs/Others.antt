@@ -7,7 +7,7 @@ use Prim.Native.Nat.{ℕ}
 use Rattle.common.specs.First.{Decides, holds, fails}
 use Rattle.common.specs.Same.{same, decides-same}
 use Rattle.json_grammar.specs.Value.{Members, mnil, mcons, among, repeated}
-use Rattle.keytable.specs.Key.{Key}
+use Rattle.keytable_rules.specs.Key.{Key}
 use Rattle.common.specs.Ascii.{ascii}
 use Rattle.jose_rules.specs.Names.{alg, kid, typ, cty, crit, fmt, knownNames}
 use Rattle.jose_rules.specs.Members.{strings}

@@ -9,10 +9,10 @@ use lib.ListN.{length}
 use Rattle.common.specs.First.{Rule, _on_, Test, _when_, first, among, numbers, condition, earlier, NoneOf, Agree, _by_, first-stands, none-stands, decides-lt}
 use Rattle.common.specs.Decided.{test-false}
 use Rattle.json.specs.Answers.{longest}
-use Rattle.keytable.specs.Key.{Distinct}
-use Rattle.keytable.specs.Table.{Wellformed, badTable, keys}
-use Rattle.keytable.specs.TableLaws.{decides-bad}
-use Rattle.keytable.specs.GoodKeys.{keys-distinct}
+use Rattle.keytable_rules.specs.Key.{Distinct}
+use Rattle.keytable_rules.specs.Table.{Wellformed, badTable, keys}
+use Rattle.keytable_rules.specs.TableLaws.{decides-bad}
+use Rattle.keytable_rules.specs.GoodKeys.{keys-distinct}
 use Rattle.jose_rules.specs.declared.Decision.{Decision}
 use Rattle.jose_rules.specs.declared.Decision.the-variants.{Refused, Chosen}
 use Rattle.jose_rules.specs.Header.{heading, HeaderChoice, HeaderChooses}

@@ -9,9 +9,9 @@ use Rattle.common.specs.First.{Test, _when_}
 use Rattle.common.specs.Same.{same}
 use Rattle.json_grammar.specs.Value.{Value, Members, mnil, mcons, repeated}
 use Rattle.json_string.specs.Utf8.{utf8}
-use Rattle.keytable.specs.declared.Found.{Found}
-use Rattle.keytable.specs.declared.Found.the-variants.{At, Nothing}
-use Rattle.keytable.specs.Key.{Key, key, find, only, allowsHS256, allowsFormat}
+use Rattle.keytable_rules.specs.declared.Found.{Found}
+use Rattle.keytable_rules.specs.declared.Found.the-variants.{At, Nothing}
+use Rattle.keytable_rules.specs.Key.{Key, key, find, only, allowsHS256, allowsFormat}
 use Rattle.jose_rules.specs.Names.{alg, kid, typ, cty, crit, fmt, HS256}
 use Rattle.jose_rules.specs.Members.{Kind, string, strings, integer}
 use Rattle.jose_rules.specs.Rules.{Choice}

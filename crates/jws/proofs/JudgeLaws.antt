@@ -15,8 +15,8 @@ use Rattle.base64url.proofs.LaidLaws.{tail}
 use Rattle.hmac.specs.Hmac.{HMACSHA256}
 use Rattle.hmac.specs.HmacLaws.{length-HMACSHA256}
 use Rattle.json.specs.Answers.{longest}
-use Rattle.keytable.specs.Key.{key}
-use Rattle.keytable.specs.Table.{badTable, keys}
+use Rattle.keytable_rules.specs.Key.{key}
+use Rattle.keytable_rules.specs.Table.{badTable, keys}
 use Rattle.jose_rules.specs.declared.Choice.{Choice}
 use Rattle.jose_rules.specs.declared.Decision.{Decision}
 use Rattle.jose_rules.specs.declared.Decision.the-variants.{Refused, Chosen}

@@ -10,9 +10,9 @@ use Rattle.common.specs.First.{Rule, _on_, Test, _when_, first, Agree, _by_, no
 use Rattle.base64url_rules.specs.Base64url.{encodedLength}
 use Rattle.base64url_rules.specs.LengthLaws.{length-encode, encoded-length}
 use Rattle.json.specs.Answers.{longest}
-use Rattle.keytable.specs.Key.{key}
-use Rattle.keytable.specs.Table.{Wellformed, badTable, keys}
-use Rattle.keytable.specs.TableLaws.{decides-bad}
+use Rattle.keytable_rules.specs.Key.{key}
+use Rattle.keytable_rules.specs.Table.{Wellformed, badTable, keys}
+use Rattle.keytable_rules.specs.TableLaws.{decides-bad}
 use Rattle.jose_rules.specs.declared.Choice.{Choice}
 use Rattle.jose_rules.specs.declared.Decision.the-variants.{Refused, Chosen}
 use Rattle.jose_rules.specs.Decision.{decisionTests, decision}

@@ -7,8 +7,8 @@ use lib.ListN.{length, take}
 use Rattle.common.specs.First.{Test, _when_}
 use Rattle.common.specs.Same.{same}
 use Rattle.hmac.specs.Hmac.{HMACSHA256}
-use Rattle.keytable.specs.Key.{key}
-use Rattle.keytable.specs.Table.{keys}
+use Rattle.keytable_rules.specs.Key.{key}
+use Rattle.keytable_rules.specs.Table.{keys}
 use Rattle.jose_rules.specs.declared.Choice.{Choice}
 use Rattle.jose_rules.specs.declared.Decision.{Decision}
 use Rattle.jose_rules.specs.declared.Decision.the-variants.{Refused, Chosen}

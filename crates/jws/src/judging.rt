@@ -5,7 +5,7 @@ ghost use mathlib.Core.Bool.{false};
 ghost use Prim.Native.Nat.{_<_};
 ghost use lib.ListN.{length};
 ghost use Rattle.common.specs.First.{first};
-ghost use Rattle.keytable.specs.Table.{badTable, keys};
+ghost use Rattle.keytable_rules.specs.Table.{badTable, keys};
 ghost use Rattle.jose_rules.specs.Decision.{decisionWith};
 ghost use Rattle.jws_rules.specs.Tests.{verifyTests};
 ghost use Rattle.jws_segments.specs.SplitLaws.{Places};

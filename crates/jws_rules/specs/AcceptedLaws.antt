@@ -13,8 +13,8 @@ use Rattle.common.specs.Same.{decides-same}
 use Rattle.base64url_rules.specs.Base64url.{encode, strict}
 use Rattle.base64url_rules.specs.RoundTrip.{strict-encode, decode-bytes}
 use Rattle.json.specs.Answers.{longest}
-use Rattle.keytable.specs.Table.{Wellformed, keys}
-use Rattle.keytable.specs.TableLaws.{decides-good}
+use Rattle.keytable_rules.specs.Table.{Wellformed, keys}
+use Rattle.keytable_rules.specs.TableLaws.{decides-good}
 use Rattle.jose_rules.specs.Header.{heading, HeaderChooses}
 use Rattle.jose_rules.specs.HeaderTests.{headerChoice}
 use Rattle.jose_rules.specs.HeaderLaws.{header-chooses, header-chooses-one, header-rules, header-bytes}

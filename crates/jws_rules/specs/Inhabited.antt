@@ -15,10 +15,10 @@ use Rattle.base64url_rules.specs.LengthLaws.{length-encode, encoded-length}
 use Rattle.json_grammar.specs.Bytes.{within, isWs}
 use Rattle.json_grammar.specs.Value.{among, repeated, names, twice, plainMembers}
 use Rattle.json_grammar.specs.Reader.{skip, isUnescaped1, charLead, readChar, readChars, valueLead, readValue, read}
-use Rattle.keytable.specs.Key.{Key, key, only, allowsHS256, allowsFormat}
-use Rattle.keytable.specs.Table.{Wellformed, keys}
-use Rattle.keytable.specs.TableLaws.{wellformed}
-use Rattle.keytable.specs.Examples.{one, entry, examples}
+use Rattle.keytable_rules.specs.Key.{Key, key, only, allowsHS256, allowsFormat}
+use Rattle.keytable_rules.specs.Table.{Wellformed, keys}
+use Rattle.keytable_rules.specs.TableLaws.{wellformed}
+use Rattle.keytable_rules.specs.Examples.{one, entry, examples}
 use Rattle.common.specs.Ascii.{ascii}
 use Rattle.jose_rules.specs.Names.{alg, kid, typ, cty, crit, fmt, HS256}
 use Rattle.jose_rules.specs.Tests.{lookup, missingOrWrong, criticalBroken, chosen, format, lacking, choice}

@@ -15,8 +15,8 @@ use Rattle.common.specs.Buffer.{filled}
 use Rattle.common.specs.First.{NoneOf, condition, earlier, numbers, among, first-stands, none-stands, in-range, not-on, _also_}
 use Rattle.json.specs.Answers.{longest}
 use Rattle.json.specs.Promises.{memberNumber, Read, member-first, read-exactly}
-use Rattle.keytable.specs.Key.{Key}
-use Rattle.keytable.specs.Table.{Wellformed, keys}
+use Rattle.keytable_rules.specs.Key.{Key}
+use Rattle.keytable_rules.specs.Table.{Wellformed, keys}
 use Rattle.jose_rules.specs.Header.{HeaderChoice, HeaderChooses}
 use Rattle.jose_rules.specs.HeaderTests.{headerChoice}
 use Rattle.jose_rules.specs.HeaderLaws.{header-chooses-one}

@@ -12,9 +12,9 @@ use Rattle.common.specs.Same.{same, decides-same}
 use Rattle.base64url_rules.specs.Base64url.{strict}
 use Rattle.hmac.specs.Hmac.{HMACSHA256}
 use Rattle.json.specs.Answers.{longest}
-use Rattle.keytable.specs.Key.{Distinct}
-use Rattle.keytable.specs.Table.{Wellformed, keys}
-use Rattle.keytable.specs.TableLaws.{decides-bad}
+use Rattle.keytable_rules.specs.Key.{Distinct}
+use Rattle.keytable_rules.specs.Table.{Wellformed, keys}
+use Rattle.keytable_rules.specs.TableLaws.{decides-bad}
 use Rattle.jose_rules.specs.Header.{heading}
 use Rattle.jose_rules.specs.HeaderLaws.{heading-agree, header-chooses, header-chooses-one}
 use Rattle.jose_rules.specs.Promises.{distinct, deciding-agree}

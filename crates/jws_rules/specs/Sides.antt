@@ -13,7 +13,7 @@ use Rattle.base64url_rules.specs.Base64url.{encode, decode, alphabetic, unusedB
 use Rattle.base64url_rules.specs.LengthLaws.{length-encode}
 use Rattle.hmac.specs.HmacLaws.{length-HMACSHA256}
 use Rattle.json.specs.Answers.{deepest}
-use Rattle.keytable.specs.Table.{Wellformed, keys}
+use Rattle.keytable_rules.specs.Table.{Wellformed, keys}
 use Rattle.jose_rules.specs.HeaderLaws.{header-chooses}
 use Rattle.jose_rules.specs.Promises.{distinct}
 use Rattle.jws_rules.specs.Segments.{periods, front, back, period}

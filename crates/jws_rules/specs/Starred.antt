@@ -13,7 +13,7 @@ use Rattle.json_grammar.specs.Reader.{read, readValue, readChars, readChar, cha
 use Rattle.json_members.specs.Members.{place}
 use Rattle.json.specs.declared.answer.Member.the-variants.{Refused as RefusedMember, Array, String as Text}
 use Rattle.json.specs.Rows.{answers, rows}
-use Rattle.keytable.specs.Key.{Key}
+use Rattle.keytable_rules.specs.Key.{Key}
 use Rattle.decimal.specs.Integer.{integerOf, allDigits, after}
 use Rattle.jose_rules.specs.declared.Decision.{Decision}
 use Rattle.jose_rules.specs.declared.Decision.the-variants.{Refused}

@@ -4,8 +4,8 @@ use Prim.Native.Nat.{ℕ, _+_}
 use lib.ListN.{length}
 use Rattle.base64url_rules.specs.Base64url.{encode, encodedLength, decode}
 use Rattle.hmac.specs.Hmac.{HMACSHA256}
-use Rattle.keytable.specs.Key.{key}
-use Rattle.keytable.specs.Table.{keys}
+use Rattle.keytable_rules.specs.Key.{key}
+use Rattle.keytable_rules.specs.Table.{keys}
 use Rattle.jose_rules.specs.Header.{HeaderChoice}
 use Rattle.jws_rules.specs.Segments.{front, back, _dot_}
 

@@ -3,7 +3,7 @@ ghost use mathlib.Core.Path.{_≡_};
 ghost use Prim.Native.Nat.{_+_, _≤_, _<_};
 ghost use lib.ListN.{length};
 ghost use Rattle.common.specs.First.{Decides};
-ghost use Rattle.keytable.specs.Table.{countOf, entryAt, areaAt, part, Placed};
+ghost use Rattle.keytable_rules.specs.Table.{countOf, entryAt, areaAt, part, Placed};
 use common::number2_at;
 use common::word8_at;
 

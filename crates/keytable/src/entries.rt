@@ -3,7 +3,7 @@ ghost use mathlib.Core.Path.{_≡_};
 ghost use Prim.Native.Nat.{ℕ, _≤_, _<_};
 ghost use lib.ListN.{length};
 ghost use Rattle.common.specs.First.{Decides};
-ghost use Rattle.keytable.specs.Table.{countOf, entryAt, GoodEntry, GoodEntries, NewId};
+ghost use Rattle.keytable_rules.specs.Table.{countOf, entryAt, GoodEntry, GoodEntries, NewId};
 use crate::area::area;
 use crate::area::placed;
 use crate::area::same;

@@ -8,16 +8,11 @@ ghost use mathlib.Core.Path.{_≡_};
 ghost use mathlib.Core.Bool.{false, not};
 ghost use Prim.Native.Nat.{_≤_, _<_};
 ghost use lib.ListN.{length};
-ghost use Rattle.keytable.specs.Key.{key, allowsHS256, allowsFormat, find, only};
-ghost use Rattle.keytable.specs.Table.{badTable, keys};
+ghost use Rattle.keytable_rules.specs.Key.{key, allowsHS256, allowsFormat, find, only};
+ghost use Rattle.keytable_rules.specs.Table.{badTable, keys};
 use common::number2_at;
 use common::number4_at;
-
-// The index of a key.
-pub enum Found {
-    At(usize),
-    Nothing,
-}
+pub use keytable_rules::Found;
 
 // Whether the table is in order. Rules out a table let through though its total length isn't the lent one, and one refused or let
 // through because its ids are compared by their first bytes only.

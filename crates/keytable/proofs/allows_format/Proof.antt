@@ -2,8 +2,8 @@
 use mathlib.Core.Path.{sym, ap}
 use native.Mathlib.Omega.{arith}
 use borrow.Author.Needs.{needs}
-use Rattle.keytable.specs.Key.{allowsFormat}
-use Rattle.keytable.specs.TableLaws.{entry}
+use Rattle.keytable_rules.specs.Key.{allowsFormat}
+use Rattle.keytable_rules.specs.TableLaws.{entry}
 use Rattle.keytable.proofs.allows_format.Statement.{statement}
 use Rattle.keytable.proofs.allows_format.Tie as tie
 

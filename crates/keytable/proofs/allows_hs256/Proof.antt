@@ -4,9 +4,9 @@ use Prim.Native.Nat.{_%_}
 use native.Mathlib.Nat.{div-one}
 use native.Mathlib.Omega.{arith}
 use lib.Dec.{eqb}
-use Rattle.keytable.specs.Table.{algorithmsOf}
-use Rattle.keytable.specs.Key.{allowsHS256}
-use Rattle.keytable.specs.TableLaws.{entry}
+use Rattle.keytable_rules.specs.Table.{algorithmsOf}
+use Rattle.keytable_rules.specs.Key.{allowsHS256}
+use Rattle.keytable_rules.specs.TableLaws.{entry}
 use Rattle.keytable.proofs.allows_hs256.Statement.{statement}
 use Rattle.keytable.proofs.allows_hs256.Tie as tie
 

@@ -2,7 +2,7 @@
 use mathlib.Core.Path.{sym, _∙_}
 use native.Mathlib.Omega.{arith}
 use borrow.Author.Needs.{needs}
-use Rattle.keytable.specs.TableLaws.{wellformed, length-keys}
+use Rattle.keytable_rules.specs.TableLaws.{wellformed, length-keys}
 use Rattle.keytable.proofs.count.Statement.{statement}
 use Rattle.keytable.proofs.count.Tie as tie
 

@@ -4,9 +4,9 @@ use Prim.Native.Nat.{ℕ, _-_, _≤_, _<_}
 use native.Mathlib.Omega.{arith}
 use lib.ListN.{length}
 use borrow.Author.Count.{below-none, below-more}
-use Rattle.keytable.specs.Table.{keys}
-use Rattle.keytable.specs.KeyLaws.{finds, finds-one}
-use Rattle.keytable.specs.Key.{key, first, none}
+use Rattle.keytable_rules.specs.Table.{keys}
+use Rattle.keytable_rules.specs.KeyLaws.{finds, finds-one}
+use Rattle.keytable_rules.specs.Key.{key, first, none}
 use Rattle.common.specs.Decided.{when-true, when-false}
 use Rattle.keytable.proofs.find.Statement.{statement}
 use Rattle.keytable.proofs.find.Tie as tie

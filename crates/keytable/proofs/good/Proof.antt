@@ -3,7 +3,7 @@ use mathlib.Core.Path.{_∙_}
 use native.Mathlib.Omega.{arith}
 use borrow.Author.Needs.{needs}
 use Rattle.common.specs.First.{fails}
-use Rattle.keytable.specs.TableLaws.{decides-good, room}
+use Rattle.keytable_rules.specs.TableLaws.{decides-good, room}
 use Rattle.common.specs.Decided.{decided, decides-by, when-true, when-false}
 use Rattle.keytable.proofs.good.Statement.{statement}
 use Rattle.keytable.proofs.good.Tie as tie

@@ -1,8 +1,8 @@
 -- `id`: the area at the entry.
 use mathlib.Core.Path.{sym, ap, _∙_}
 use native.Mathlib.Omega.{arith}
-use Rattle.keytable.specs.Key.{Key}
-use Rattle.keytable.specs.TableLaws.{entry}
+use Rattle.keytable_rules.specs.Key.{Key}
+use Rattle.keytable_rules.specs.TableLaws.{entry}
 use Rattle.keytable.proofs.id.Statement.{statement}
 use Rattle.keytable.proofs.id.Tie as tie
 

@@ -1,7 +1,7 @@
 -- `only`: one key or not.
 use mathlib.Core.Path.{sym, _∙_}
 use borrow.Author.Needs.{needs}
-use Rattle.keytable.specs.KeyLaws.{only-one, only-none}
+use Rattle.keytable_rules.specs.KeyLaws.{only-one, only-none}
 use Rattle.keytable.proofs.only.Statement.{statement}
 use Rattle.keytable.proofs.only.Tie as tie
 

@@ -6,8 +6,8 @@ use Prim.Native.Nat.{_≤_}
 use lib.IntN.{natAbs}
 use mir.Facts.{toZ-ofZ}
 use denote.Ref.{now}
-use Rattle.keytable.specs.Key.{key, allowsHS256, allowsFormat}
-use Rattle.keytable.specs.Table.{keys}
+use Rattle.keytable_rules.specs.Key.{key, allowsHS256, allowsFormat}
+use Rattle.keytable_rules.specs.Table.{keys}
 use Rattle.jose_rules.specs.HeaderTests.{reading}
 use Rattle.jose_rules.specs.Tests.{indexOf, chosen, lacking}
 use Rattle.jose_rules.specs.DecisionLaws.{chosen-within}

@@ -3,7 +3,7 @@ use mathlib.Core.Path.{_≡_, sym, _∙_}
 use mathlib.Core.Bool.{false}
 use native.Mathlib.Omega.{arith}
 use borrow.Author.Needs.{needs}
-use Rattle.keytable.specs.Table.{badTable}
+use Rattle.keytable_rules.specs.Table.{badTable}
 use Rattle.jws_segments.specs.SplitLaws.{split-at, split-not}
 use Rattle.jws.proofs.JudgeLaws as law
 use Rattle.jws.proofs.judging.judge.Statement.{statement}

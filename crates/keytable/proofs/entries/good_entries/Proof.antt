@@ -4,7 +4,7 @@ use Prim.Native.Nat.{_-_, _≤_}
 use native.Mathlib.Omega.{arith}
 use borrow.Author.Count.{below-none, below-more}
 use Rattle.common.specs.First.{holds, fails}
-use Rattle.keytable.specs.Table.{entryAt, GoodEntries}
+use Rattle.keytable_rules.specs.Table.{entryAt, GoodEntries}
 use Rattle.common.specs.Decided.{when-true, when-false}
 use Rattle.keytable.proofs.entries.good_entries.Statement.{statement}
 use Rattle.keytable.proofs.entries.good_entries.Tie as tie

@@ -4,7 +4,7 @@ use Prim.Native.Nat.{ℕ, _-_, _≤_, _<_}
 use native.Mathlib.Omega.{arith}
 use borrow.Author.Count.{below-none, below-more}
 use Rattle.common.specs.First.{holds, fails}
-use Rattle.keytable.specs.Table.{idOf}
+use Rattle.keytable_rules.specs.Table.{idOf}
 use Rattle.common.specs.Decided.{when-true, when-false}
 use Rattle.keytable.proofs.entries.new_id.Statement.{statement}
 use Rattle.keytable.proofs.entries.new_id.Tie as tie

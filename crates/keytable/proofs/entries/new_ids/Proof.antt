@@ -3,7 +3,7 @@ use Prim.Native.Nat.{ℕ, _-_, _≤_, _<_}
 use native.Mathlib.Omega.{arith}
 use borrow.Author.Count.{below-none, below-more}
 use Rattle.common.specs.First.{holds, fails}
-use Rattle.keytable.specs.Table.{NewId}
+use Rattle.keytable_rules.specs.Table.{NewId}
 use Rattle.common.specs.Decided.{when-true, when-false}
 use Rattle.keytable.proofs.entries.new_ids.Statement.{statement}
 use Rattle.keytable.proofs.entries.new_ids.Tie as tie

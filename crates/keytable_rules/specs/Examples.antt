@@ -5,10 +5,10 @@ use mathlib.Core.List.{List, [], _∷_, _++_}
 use Prim.Native.Nat.{ℕ, zero, suc, _+_, _-_, _*_, _/_, _%_, _≤_}
 use native.Mathlib.Omega.{arith}
 use lib.ListN.{length, replicate, length-replicate}
-use Rattle.keytable.specs.declared.Found.the-variants.{At, Nothing}
+use Rattle.keytable_rules.specs.declared.Found.the-variants.{At, Nothing}
 use Rattle.common.specs.Same.{same}
-use Rattle.keytable.specs.Key.{find, only}
-use Rattle.keytable.specs.Table.{Wellformed, badTable, keys, below, listed}
+use Rattle.keytable_rules.specs.Key.{Key, find, only, allowsHS256, allowsFormat}
+use Rattle.keytable_rules.specs.Table.{Wellformed, badTable, keys, below, listed}
 
 -- the first eight bytes, for numbers below 256
 abbrev pub head : ℕ → ℕ → ℕ → List ℕ
@@ -61,6 +61,10 @@ blank-good n h = record {
   ids = λ j l. absurd (omega arith);
 }
 
+-- a key with these algorithms and formats
+abbrev pub allowing : ℕ → ℕ → Key
+allowing algorithms formats = record { id = []; secret = []; algorithms = algorithms; formats = formats }
+
 pub record Examples : Type 0 where
   -- the empty table, whole; one byte more belongs to no area; a wrong edition, a count of 1, a total that isn't the lent length
   pub empty : badTable (head 1 0 8) ≡ false
@@ -69,6 +73,7 @@ pub record Examples : Type 0 where
   pub edition-2 : badTable (head 2 0 8) ≡ true
   pub no-entry : badTable (head 1 1 8) ≡ true
   pub total-9 : badTable (head 1 0 9) ≡ true
+  pub total-8 : badTable (head 1 0 8 ++ (0 ∷ [])) ≡ true
   -- the shortest with one key: 52 bytes, its id inside its secret; with areas apart, 53
   pub shortest : badTable (one 52 (entry 20 1 20 32 1 0)) ≡ false
   pub its-key : keys (one 52 (entry 20 1 20 32 1 0)) ≡ record { id = 65 ∷ []; secret = replicate 32 65; algorithms = 1; formats = 5 } ∷ []
@@ -91,6 +96,14 @@ pub record Examples : Type 0 where
   pub second : find (65 ∷ 66 ∷ 67 ∷ []) (keys (two 32 2 34 3)) ≡ At 1
   pub neither : find (65 ∷ []) (keys (two 32 2 34 3)) ≡ Nothing
   pub not-only : only (keys (two 32 2 34 3)) ≡ Nothing
+  -- HS256 by bit 0 of the algorithms; formats 1 and 3 by bits 0 and 2 of the formats, and not 2 or 4; format 8 by bit 7
+  pub hs256 : allowsHS256 (allowing 1 0) ≡ true
+  pub no-hs256 : allowsHS256 (allowing 0 1) ≡ false
+  pub format-1 : allowsFormat (allowing 0 5) 1 ≡ true
+  pub format-2 : allowsFormat (allowing 0 5) 2 ≡ false
+  pub format-3 : allowsFormat (allowing 0 5) 3 ≡ true
+  pub format-4 : allowsFormat (allowing 0 5) 4 ≡ false
+  pub format-8 : allowsFormat (allowing 0 128) 8 ≡ true
   -- 32 keys, and 33; 8,192 bytes, and 8,193
   pub keys-32 : badTable (many 32) ≡ false
   pub keys-33 : badTable (many 33) ≡ true
@@ -98,7 +111,7 @@ pub record Examples : Type 0 where
   pub bytes-8193 : Wellformed (blank 8185) → ⊥
 
 pub examples : Examples
-unfolding badTable keys below listed same find only entriesFrom upFrom
+unfolding badTable keys below listed same find only allowsHS256 allowsFormat entriesFrom upFrom
 examples = record {
   empty = refl;
   no-keys = refl;
@@ -106,6 +119,7 @@ examples = record {
   edition-2 = refl;
   no-entry = refl;
   total-9 = refl;
+  total-8 = refl;
   shortest = refl;
   its-key = refl;
   apart = refl;
@@ -126,6 +140,13 @@ examples = record {
   second = refl;
   neither = refl;
   not-only = refl;
+  hs256 = refl;
+  no-hs256 = refl;
+  format-1 = refl;
+  format-2 = refl;
+  format-3 = refl;
+  format-4 = refl;
+  format-8 = refl;
   keys-32 = refl;
   keys-33 = refl;
   bytes-8192 = blank-good 8184 (omega arith);

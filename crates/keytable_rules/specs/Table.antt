@@ -8,7 +8,7 @@ use lib.Dec.{eqb, leb, ltb}
 use lib.ListN.{length, getD, take, drop}
 use Rattle.common.specs.BigEndian.{number2, number4}
 use Rattle.common.specs.Same.{same}
-use Rattle.keytable.specs.Key.{Key}
+use Rattle.keytable_rules.specs.Key.{Key}
 
 -- SIZES AND LIMITS
 

@@ -5,8 +5,8 @@ use mathlib.Core.List.{List, [], _∷_}
 use Prim.Native.Nat.{ℕ, suc, _-_, _/_, _%_, _^_, _<_}
 use lib.Dec.{eqb}
 use lib.ListN.{length, getD}
-use Rattle.keytable.specs.declared.Found.{Found}
-use Rattle.keytable.specs.declared.Found.the-variants.{At, Nothing}
+use Rattle.keytable_rules.specs.declared.Found.{Found}
+use Rattle.keytable_rules.specs.declared.Found.the-variants.{At, Nothing}
 use Rattle.common.specs.Same.{same}
 
 pub record Key : Type 0 where

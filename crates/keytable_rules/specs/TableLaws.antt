@@ -10,8 +10,8 @@ use lib.ListN.{length, getD}
 use Rattle.common.specs.First.{Decides, holds, decides-not, decides-le, decides-lt, decides-eq, stable}
 use Rattle.common.specs.Decided.{when-true, decides-by, _and_}
 use Rattle.common.specs.Same.{decides-same}
-use Rattle.keytable.specs.Key.{key, noKey}
-use Rattle.keytable.specs.Table.{entrySize, tableLeast, countOf, entryAt, Area, idOf, Placed, GoodEntry, GoodEntries, NewId, Wellformed, below, isPlaced, isGoodEntry, isNewId, isWellformed, badTable, keyOf, listed, keys}
+use Rattle.keytable_rules.specs.Key.{key, noKey}
+use Rattle.keytable_rules.specs.Table.{entrySize, tableLeast, countOf, entryAt, Area, idOf, Placed, GoodEntry, GoodEntries, NewId, Wellformed, below, isPlaced, isGoodEntry, isNewId, isWellformed, badTable, keyOf, listed, keys}
 
 -- a test of each number below n
 decides-below : {P : ℕ → Type 0} {t : ℕ → Bool} → ((i : ℕ) → Decides (P i) (t i)) → (n : ℕ) → Decides ((i : ℕ) → i < n → P i) (below n t)

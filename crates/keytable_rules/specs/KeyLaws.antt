@@ -9,10 +9,10 @@ use lib.Dec.{eqb}
 use lib.ListN.{length}
 use borrow.Author.Tests.{eq-eqb, ne-eqb}
 use Rattle.common.specs.First.{Decides, holds, fails, decides-eq}
-use Rattle.keytable.specs.declared.Found.{Found}
-use Rattle.keytable.specs.declared.Found.the-variants.{At, Nothing}
+use Rattle.keytable_rules.specs.declared.Found.{Found}
+use Rattle.keytable_rules.specs.declared.Found.the-variants.{At, Nothing}
 use Rattle.common.specs.Same.{same, decides-same}
-use Rattle.keytable.specs.Key.{Key, key, Distinct, Named, Finds, first, none, oneOn, find, only}
+use Rattle.keytable_rules.specs.Key.{Key, key, Distinct, Named, Finds, first, none, oneOn, find, only}
 
 -- one key more in front
 named-tail : {id : List ℕ} {k : Key} {ks : List Key} {i : ℕ} → Named id (k ∷ ks) (suc i) → Named id ks i
