@@ -1,6 +1,6 @@
 -- Rule 10: what `crit` may list, and when the rule is broken.
 use mathlib.Core.Path.{_≡_, refl, sym, ap, _∙_, subst}
-use mathlib.Core.Bool.{Bool, true, false, not, _||_}
+use mathlib.Core.Bool.{Bool, true, false, not, _||_, true≢false}
 use mathlib.Core.List.{List, [], _∷_}
 use mathlib.Core.Option.{Option, none, some}
 use Prim.Native.Nat.{ℕ, _+_, _-_, _<_}
@@ -28,7 +28,7 @@ use Rattle.jose_rules.specs.Known.{or-false}
 use Rattle.jose_rules.specs.Tests.{lookup, said, wrong, anyOf, empty, listed, missingOrWrong, criticalBroken}
 use Rattle.jose.specs.Slots.{inside, Stands, isThere, isOf, formatAlone}
 use Rattle.jose.proofs.WordLaws.{isAscii, text-word}
-use Rattle.jose.proofs.SlotLaws.{clash, no-member, there-is, array-at, wrong-there}
+use Rattle.jose.proofs.SlotLaws.{no-member, there-is, array-at, wrong-there}
 use Rattle.jose.proofs.KindLaws.{or-true, or-none, Element, element-of, no-strings-other}
 
 -- WHETHER `crit` LISTS `fmt` AND NOTHING ELSE
@@ -49,7 +49,7 @@ strings-at {h} {n} {k} {x} w f = go (isOf arrayK k) refl
         let a = array-at w e in
         let s : said strings n (reading h) ≡ stringsIn (plainItems (a .0)) = ap (λ (o : Option Value). bind o strings) (a .1) in
         record { items = a .0; within = a .2; at = a .3; fine = sym (ap absent s) ∙ sym (wrong-there w strings) ∙ f; is = s }
-    go false e = clash (no-strings-other w e ∙ f)
+    go false e = absurd (true≢false (no-strings-other w e ∙ f))
 
 pub lists-absent : {h n : List ℕ} → Stands h n Absent → false ≡ given formatAlone (said strings n (reading h))
 lists-absent w = sym (ap (λ (o : Option Value). given formatAlone (bind o strings)) (no-member w))
@@ -156,7 +156,7 @@ module _ (ms : Members) where
   broken-absent fine l = rw (l, or-none (given faults (said strings crit ms))) (go (lookup crit ms) refl)
     where
       names : (o : Option (List (List ℕ))) → absent o ≡ false → given faults o ≡ true
-      names none e = clash e
+      names none e = absurd (true≢false e)
       names (some ns) e = any-name l ns
 
       go : (o : Option Value) → lookup crit ms ≡ o → given faults (bind o strings) ≡ not (absent o)
@@ -189,7 +189,7 @@ module _ {h : List ℕ} {c f : Slot} (crit-is : Stands h crit c) (fmt-is : Stand
   critical-there e {t} l = go (lookup fmt (reading h)) refl (sym (there-is f fmt-is) ∙ sym there ∙ e)
     where
       go : (o : Option Value) → lookup fmt (reading h) ≡ o → not (absent (lookup fmt (reading h))) ≡ true → not t ≡ criticalBroken (reading h)
-      go none s n = clash (sym n ∙ ap (λ (o : Option Value). not (absent o)) s)
+      go none s n = absurd (true≢false (sym n ∙ ap (λ (o : Option Value). not (absent o)) s))
       go (some v) s n = ap not l ∙ sym (broken-there (reading h) s)
 
   pub critical-absent : wrong strings crit (reading h) ≡ false → b ≡ false → {t : Bool} → t ≡ isThere c → t ≡ criticalBroken (reading h)
@@ -197,4 +197,4 @@ module _ {h : List ℕ} {c f : Slot} (crit-is : Stands h crit c) (fmt-is : Stand
     where
       go : (o : Option Value) → lookup fmt (reading h) ≡ o → not (absent (lookup fmt (reading h))) ≡ false → t ≡ criticalBroken (reading h)
       go none s n = l ∙ there-is c crit-is ∙ sym (broken-absent (reading h) fine s)
-      go (some v) s n = clash (sym (ap (λ (o : Option Value). not (absent o)) s) ∙ n)
+      go (some v) s n = absurd (true≢false (sym (ap (λ (o : Option Value). not (absent o)) s) ∙ n))

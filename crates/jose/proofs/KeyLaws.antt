@@ -1,7 +1,7 @@
 -- Rules 11 to 14: the algorithm, the key, the format; and what is chosen.
 use mathlib.Core.Path.{_≡_, refl, sym, ap, _∙_}
 use mathlib.Core.Logic.{_⊎_, inl, inr, ⊎-elim}
-use mathlib.Core.Bool.{Bool, true, false, cond, not, _||_}
+use mathlib.Core.Bool.{Bool, true, false, cond, not, _||_, true≢false}
 use mathlib.Core.List.{List, _++_}
 use mathlib.Core.Option.{Option, none, some}
 use Prim.Native.Nat.{ℕ, _-_, _≤_, _<_}
@@ -41,7 +41,7 @@ use Rattle.jose_rules.specs.Tests.{indexOf, chosen, format, lacking, choice}
 use Rattle.jose_rules.specs.Decision.{choiceOf}
 use Rattle.jose.specs.Slots.{theKid, theTyp, theCty, Stands, Located, isOf, otherAlgorithm, KeyNamed, smallOf, choiceBy, keyDecision}
 use Rattle.jose.proofs.WordLaws.{isAscii, text-word}
-use Rattle.jose.proofs.SlotLaws.{clash, member, no-member, there-is, string-at, no-string-said, raw-is}
+use Rattle.jose.proofs.SlotLaws.{member, no-member, there-is, string-at, no-string-said, raw-is}
 
 -- THE ALGORITHM
 
@@ -123,15 +123,15 @@ module _ {h : List ℕ} (ks : List Key) where
 
 low : (z : ℤ) → ltZ z (pos 1) ≡ false → 1 ≤ natAbs z
 low (pos m) e = ltb-false m 1 e
-low (negsuc m) e = clash e
+low (negsuc m) e = absurd (true≢false e)
 
 pub high : (z : ℤ) → ltZ (pos 8) z ≡ false → ltZ z (pos 1) ≡ false → natAbs z ≤ 8
 high (pos m) e f = ltb-false 8 m e
-high (negsuc m) e f = clash f
+high (negsuc m) e f = absurd (true≢false f)
 
 pub from-zero : (z : ℤ) → ltZ z (pos 1) ≡ false → T (nonNeg z)
 from-zero (pos m) e = tt
-from-zero (negsuc m) e = clash e
+from-zero (negsuc m) e = absurd (true≢false e)
 
 pub small-low : (z : ℤ) → ltZ z (pos 1) ≡ true → 0 ≡ smallOf z
 unfolding smallOf

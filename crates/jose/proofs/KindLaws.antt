@@ -1,6 +1,6 @@
 -- Rule 9: the elements of `crit`, the format, and the kinds together.
 use mathlib.Core.Path.{_≡_, refl, sym, ap, _∙_, subst}
-use mathlib.Core.Bool.{Bool, true, false, not, _||_}
+use mathlib.Core.Bool.{Bool, true, false, not, _||_, true≢false}
 use mathlib.Core.List.{List, _∷_}
 use mathlib.Core.Option.{Option, none, some}
 use Prim.Native.Nat.{ℕ, _-_}
@@ -28,7 +28,7 @@ use Rattle.jose_rules.specs.Only.{absent, given, bind}
 use Rattle.jose_rules.specs.HeaderTests.{reading}
 use Rattle.jose_rules.specs.Tests.{lookup, said, wrong, format, missingOrWrong}
 use Rattle.jose.specs.Slots.{inside, theAlg, theKid, theTyp, theCty, Stands, Located, isThere, isOf, noString, sizeOf, StringsFrom}
-use Rattle.jose.proofs.SlotLaws.{clash, member, no-member, there-is, no-string-is, string-view, number-view, array-view, kind-no, held, not-said, array-at, number-at, wrong-there}
+use Rattle.jose.proofs.SlotLaws.{member, no-member, there-is, no-string-is, string-view, number-view, array-view, kind-no, held, not-said, array-at, number-at, wrong-there}
 
 -- ELEMENTS
 
@@ -72,7 +72,7 @@ module _ {h : List ℕ} {p : ℕ} {i : Item} (it : ItemAt h p (inside - 1) i) wh
     where
       go : (b : Bool) → isOf stringK (i .kind) ≡ b → Element h i vs
       go true e = element vs o e
-      go false e = clash (sym (ap absent (no-element vs o e)) ∙ f)
+      go false e = absurd (true≢false (sym (ap absent (no-element vs o e)) ∙ f))
 
   module _ {b : Bool} (k : b ≡ isOf stringK (i .kind)) where
     pub strings-next : {q : ℕ} {r : Bool} → b ≡ true → i .next ≡ At q → StringsFrom h q r → StringsFrom h p r

@@ -1,6 +1,6 @@
 -- What a slot that shows a member says of the header's reading.
 use mathlib.Core.Path.{_≡_, refl, sym, ap, ap₂, _∙_, subst}
-use mathlib.Core.Bool.{Bool, true, false, cond, not}
+use mathlib.Core.Bool.{Bool, true, false, cond, not, true≢false}
 use mathlib.Core.List.{List}
 use mathlib.Core.Option.{Option, none, some}
 use Prim.Native.Nat.{ℕ, _+_, _-_, _≤_, _<_}
@@ -111,9 +111,6 @@ array-view nullL = no refl
 array-view (arrayL vs) = yes refl
 array-view (objectL ms) = no refl
 
-pub clash : {P : Type 0} → true ≡ false → P
-clash e = let z : _≡_ {A = ℕ} 0 1 = cc in absurd (omega arith)
-
 module _ {B : Type 0} {says : Said B} {c : Kinds} (view : (v : LValue) → View c says v (isKind c v)) where
   module _ {h a b : List ℕ} {d : ℕ} {k : Kind} {x : Span} {v : LValue} (w : ValueIs h d k x a b v) where
     of-kind : isOf c k ≡ isKind c v
@@ -124,13 +121,13 @@ module _ {B : Type 0} {says : Said B} {c : Kinds} (view : (v : LValue) → View 
       where
         go : (b : Bool) → View c says v b → b ≡ true → kindOf (plain v) ≡ c
         go true (yes p) t = p
-        go false (no p) t = clash (sym t)
+        go false (no p) t = absurd (true≢false (sym t))
 
     pub kind-no : isOf c k ≡ false → says (plain v) ≡ none
     kind-no t = go (isKind c v) (view v) (sym of-kind ∙ t)
       where
         go : (b : Bool) → View c says v b → b ≡ false → says (plain v) ≡ none
-        go true (yes p) t = clash t
+        go true (yes p) t = absurd (true≢false t)
         go false (no p) t = p
 
     -- what stands at the place of a value of the kind c

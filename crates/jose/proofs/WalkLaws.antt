@@ -1,6 +1,6 @@
 -- The walk over the top object's members: each slot shows the first member with its name.
 use mathlib.Core.Path.{_≡_, refl, sym, ap, _∙_, subst}
-use mathlib.Core.Bool.{Bool, true, false, cond}
+use mathlib.Core.Bool.{Bool, true, false, cond, true≢false}
 use mathlib.Core.List.{List}
 use mathlib.Core.Option.{Option, none, some}
 use Prim.Native.Nat.{ℕ, _+_}
@@ -24,19 +24,18 @@ use Rattle.jose_rules.specs.Names.{alg, kid, typ, cty, crit, fmt}
 use Rattle.jose_rules.specs.HeaderTests.{located}
 use Rattle.jose.specs.Slots.{inside, Which, theAlg, theKid, theTyp, theCty, theCrit, theFmt, name, slot, itemOf, Shows, Located, isThere, NoneKnown, takenBy, Taken, Noted, Walked}
 use Rattle.jose.proofs.WordLaws.{isAscii, word-same}
-use Rattle.jose.proofs.SlotLaws.{clash}
 
 -- ONE SLOT
 
 module _ {h w : List ℕ} {p : ℕ} {m : Entry} where
   pub taken-kept : {b : Bool} (s : Slot) → b ≡ isThere s → b ≡ true → Taken h p m w s s
-  taken-kept Absent e t = clash (sym t ∙ e)
+  taken-kept Absent e t = absurd (true≢false (sym t ∙ e))
   taken-kept (Is k x) e t = record { is = λ cs a. refl }
 
   module _ (t : Bool) (text : t ≡ textIs h (p + 1) w) where
     pub taken-new : {b : Bool} (s : Slot) → b ≡ isThere s → b ≡ false → t ≡ true → Taken h p m w s (Is (m .kind) (m .value))
     taken-new Absent e f y = record { is = λ cs a. sym (ap (λ (q : Bool). takenBy q m Absent) (sym (text ∙ name-is h (p + 1) cs a w) ∙ y)) }
-    taken-new (Is k x) e f y = clash (sym e ∙ f)
+    taken-new (Is k x) e f y = absurd (true≢false (sym e ∙ f))
 
     pub taken-other : (s : Slot) → t ≡ false → Taken h p m w s s
     taken-other Absent y = record { is = λ cs a. sym (ap (λ (q : Bool). takenBy q m Absent) (sym (text ∙ name-is h (p + 1) cs a w) ∙ y)) }

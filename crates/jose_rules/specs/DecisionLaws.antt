@@ -1,6 +1,6 @@
 -- What a decision says: the number is that of the first rule that refuses; where none does, the choice is the header's, and its key is one of the keys.
 use mathlib.Core.Path.{_≡_, refl, sym}
-use mathlib.Core.Bool.{Bool, true, false, cond}
+use mathlib.Core.Bool.{Bool, true, false, cond, true≢false}
 use mathlib.Core.List.{List, _∷_}
 use mathlib.Core.Option.{Option, none, some}
 use Prim.Native.Nat.{ℕ, zero, suc, _<_}
@@ -24,9 +24,6 @@ use Rattle.jose_rules.specs.Header.{HeaderChoice}
 use Rattle.jose_rules.specs.HeaderTests.{reading, headerChoice}
 use Rattle.jose_rules.specs.Tests.{lookup, indexOf, chosen, choice}
 use Rattle.jose_rules.specs.Decision.{choiceOf, decided, decisionTests, decisionWith, decision}
-
-clash : {P : Type 0} → true ≡ false → P
-clash e = let z : _≡_ {A = ℕ} 0 1 = cc in absurd (omega arith)
 
 -- A NUMBER AND A CHOICE, apart again
 
@@ -63,7 +60,7 @@ module _ (h : List ℕ) (ks : List Key) where
   choice-within e = go (chosen (reading h) ks) refl (all-pass (decisionTests h ks) refl e .1 .1 .1 .1 .1 .1 .0)
     where
       go : (o : Option ℕ) → chosen (reading h) ks ≡ o → absent o ≡ false → orElse (chosen (reading h) ks) 0 < length ks
-      go none e f = clash f
+      go none e f = absurd (true≢false f)
       go (some i) e f = rw e (chosen-within (reading h) ks (sym e))
 
   -- for callers of `decide_with`

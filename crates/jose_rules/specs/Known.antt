@@ -1,7 +1,7 @@
 -- The tests decide the conditions: the answer is the first of 9 to 14 that holds, and where none does, what is chosen is the only choice.
 use mathlib.Core.Path.{_≡_, refl, sym, ap}
 use mathlib.Core.Logic.{_↔_, _⊎_, inl, inr, ⊎-elim}
-use mathlib.Core.Bool.{Bool, true, false, cond, not, _||_}
+use mathlib.Core.Bool.{Bool, true, false, cond, not, _||_, true≢false}
 use mathlib.Core.List.{List, [], _∷_}
 use mathlib.Core.Option.{Option, none, some}
 use Prim.Native.Nat.{ℕ}
@@ -27,7 +27,7 @@ use Rattle.jose_rules.specs.Only.{Only, nothing, just, absent, orElse, d
 use Rattle.jose_rules.specs.Tests.{lookup, said, wrong, anyOf, empty, listed, missingOrWrong, criticalBroken, indexOf, chosen, format, lacking, knownTests, choice}
 
 pub or-false : (a b : Bool) → a || b ≡ false → (a ≡ false) × (b ≡ false)
-or-false true b e = let z : _≡_ {A = ℕ} 0 1 = cc in absurd (omega arith)
+or-false true b e = absurd (true≢false e)
 or-false false b e = (refl, e)
 
 pub decides-among : (n : List ℕ) (ms : Members) → Decides ((v : Value) × Has n v ms) (amongNames n (names ms))
