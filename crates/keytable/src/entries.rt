@@ -1,21 +1,37 @@
 // The entries of the table: whether each is good, and whether two ids are equal.
 ghost use mathlib.Core.Path.{_≡_};
-ghost use Prim.Native.Nat.{ℕ, _≤_, _<_};
+ghost use Prim.Native.Nat.{ℕ, _+_, _≤_, _<_};
 ghost use lib.ListN.{length};
 ghost use Rattle.common.specs.First.{Decides};
-ghost use Rattle.keytable_rules.specs.Table.{countOf, entryAt, GoodEntry, GoodEntries, NewId};
+ghost use Rattle.keytable_rules.specs.Table.{countOf, entryAt, idArea, idOf, GoodEntry, GoodEntries, NewId};
 use crate::area::area;
 use crate::area::placed;
 use crate::area::same;
 use crate::limits;
 use common::number2_at;
 
+// Where entry i begins; for i = n, where the entries end.
+pub(crate) fn entry_at(i: usize) -> usize
+    requires { ⌜ entryAt i < 18446744073709551616 ⌝ }
+    ensures { λ r. ⌜ r ≡ entryAt i ⌝ }
+{
+    limits::HEAD + limits::ENTRY * i
+}
+
+// The id that entry i places.
+pub(crate) fn id_of(table: &[u8], i: usize) -> &[u8]
+    requires { ⌜ (entryAt i + 3 < length (now table)) × (idArea (now table) i .offset + idArea (now table) i .size ≤ length (now table)) ⌝ }
+    ensures { λ r. ⌜ now r ≡ idOf (now (table .entry)) i ⌝ }
+{
+    area(table, entry_at(i))
+}
+
 // Whether entry i is good; the entries end at `first`.
 pub(crate) fn good_entry(table: &[u8], i: usize, first: usize) -> bool
     requires { ⌜ (first ≡ entryAt (countOf (now table))) × (i < countOf (now table)) × (first ≤ length (now table)) ⌝ }
     ensures { λ r. ⌜ Decides (GoodEntry (now (table .entry)) i) r ⌝ }
 {
-    let at = limits::HEAD + limits::ENTRY * i;
+    let at = entry_at(i);
     if placed(table, at, first, limits::ID_LEAST, limits::ID_MOST) {
         if placed(
             table,
@@ -32,12 +48,11 @@ pub(crate) fn good_entry(table: &[u8], i: usize, first: usize) -> bool
     false
 }
 
-// Whether the n entries are good.
-pub(crate) fn good_entries(table: &[u8], n: usize) -> bool
-    requires { ⌜ (n ≡ countOf (now table)) × (entryAt n ≤ length (now table)) ⌝ }
+// Whether the n entries are good, which end at `first`.
+pub(crate) fn good_entries(table: &[u8], n: usize, first: usize) -> bool
+    requires { ⌜ (n ≡ countOf (now table)) × (first ≡ entryAt n) × (first ≤ length (now table)) ⌝ }
     ensures { λ r. ⌜ Decides (GoodEntries (now (table .entry)) n) r ⌝ }
 {
-    let first = limits::HEAD + limits::ENTRY * n;
     let mut i: usize = 0;
     while i < n {
         if good_entry(table, i, first) {
@@ -54,10 +69,10 @@ pub(crate) fn new_id(table: &[u8], j: usize) -> bool
     requires { ⌜ (j < countOf (now table)) × (entryAt (countOf (now table)) ≤ length (now table)) × GoodEntries (now table) (countOf (now table)) ⌝ }
     ensures { λ r. ⌜ Decides (NewId (now (table .entry)) j) r ⌝ }
 {
-    let id = area(table, limits::HEAD + limits::ENTRY * j);
+    let id = id_of(table, j);
     let mut i: usize = 0;
     while i < j {
-        if same(area(table, limits::HEAD + limits::ENTRY * i), id) {
+        if same(id_of(table, i), id) {
             return false;
         }
         i += 1;

@@ -6,10 +6,16 @@ mod limits;
 
 ghost use mathlib.Core.Path.{_≡_};
 ghost use mathlib.Core.Bool.{false, not};
-ghost use Prim.Native.Nat.{_≤_, _<_};
-ghost use lib.ListN.{length};
+ghost use Prim.Native.Nat.{_+_, _≤_, _<_};
+ghost use lib.ListN.{length, getD};
 ghost use Rattle.keytable_rules.specs.Key.{key, allowsHS256, allowsFormat, find, only};
-ghost use Rattle.keytable_rules.specs.Table.{badTable, keys};
+ghost use Rattle.keytable_rules.specs.Table.{entrySize, entryAt, badTable, keys};
+use crate::area::area;
+use crate::area::same;
+use crate::entries::entry_at;
+use crate::entries::good_entries;
+use crate::entries::id_of;
+use crate::entries::new_ids;
 use common::number2_at;
 use common::number4_at;
 pub use keytable_rules::Found;
@@ -36,11 +42,12 @@ pub fn good(table: &[u8]) -> bool
     if total != table.len() {
         return false;
     }
-    if total < limits::HEAD + limits::ENTRY * n {
+    let first = entry_at(n);
+    if total < first {
         return false;
     }
-    if entries::good_entries(table, n) {
-        entries::new_ids(table, n)
+    if good_entries(table, n, first) {
+        new_ids(table, n)
     } else {
         false
     }
@@ -54,12 +61,12 @@ pub fn count(table: &[u8]) -> usize
     number2_at(table, 2) as usize
 }
 
-// The id of key i. Rules out the secret in its place, and the id of the next key.
+// The id of key i. Rules out the secret in its place, and the id of the first key.
 pub fn id(table: &[u8], i: usize) -> &[u8]
     requires { ⌜ (badTable (now table) ≡ false) × (i < length (keys (now table))) ⌝ }
     ensures { λ r. ⌜ now r ≡ key (keys (now (table .entry))) i .id ⌝ }
 {
-    area::area(table, limits::HEAD + limits::ENTRY * i)
+    id_of(table, i)
 }
 
 // The secret of key i. Rules out the id in its place, and the secret of the next key.
@@ -67,7 +74,15 @@ pub fn secret(table: &[u8], i: usize) -> &[u8]
     requires { ⌜ (badTable (now table) ≡ false) × (i < length (keys (now table))) ⌝ }
     ensures { λ r. ⌜ now r ≡ key (keys (now (table .entry))) i .secret ⌝ }
 {
-    area::area(table, limits::HEAD + limits::ENTRY * i + 4)
+    area(table, entry_at(i) + 4)
+}
+
+// Byte k of entry i.
+fn entry_byte(table: &[u8], i: usize, k: usize) -> u8
+    requires { ⌜ (badTable (now table) ≡ false) × (i < length (keys (now table))) × (k < entrySize) ⌝ }
+    ensures { λ r. ⌜ r ≡ getD (now (table .entry)) (entryAt i + k) 0 ⌝ }
+{
+    table[entry_at(i) + k]
 }
 
 // Whether key i allows HS256. Rules out a look at the formats, and the bit turned round.
@@ -75,7 +90,7 @@ pub fn allows_hs256(table: &[u8], i: usize) -> bool
     requires { ⌜ (badTable (now table) ≡ false) × (i < length (keys (now table))) ⌝ }
     ensures { λ r. ⌜ r ≡ allowsHS256 (key (keys (now (table .entry))) i) ⌝ }
 {
-    table[limits::HEAD + limits::ENTRY * i + 8] % 2 == 1
+    entry_byte(table, i, 8) % 2 == 1
 }
 
 // Whether key i allows format f. Rules out the next format's bit, and bits counted from the other end.
@@ -83,7 +98,7 @@ pub fn allows_format(table: &[u8], i: usize, f: u8) -> bool
     requires { ⌜ (badTable (now table) ≡ false) × (i < length (keys (now table))) × (1 ≤ f) × (f ≤ 8) ⌝ }
     ensures { λ r. ⌜ r ≡ allowsFormat (key (keys (now (table .entry))) i) f ⌝ }
 {
-    (table[limits::HEAD + limits::ENTRY * i + 9] >> (f - 1)) % 2 == 1
+    (entry_byte(table, i, 9) >> (f - 1)) % 2 == 1
 }
 
 // The index of the key with this id. Rules out an index one off, and a key whose id only begins so.
@@ -94,7 +109,7 @@ pub fn find(table: &[u8], wanted: &[u8]) -> Found
     let n = count(table);
     let mut i: usize = 0;
     while i < n {
-        if area::same(id(table, i), wanted) {
+        if same(id(table, i), wanted) {
             return Found::At(i);
         }
         i += 1;

@@ -61,7 +61,7 @@ good-spec =
     returns-4
     (λ c κs. search needs) (λ c. search needs)
     returns-5
-    (λ c. search needs) (λ c. search needs)
+    (λ c κs. search needs)
     returns-6
     (λ c κs. search needs)
     new-ids-requires

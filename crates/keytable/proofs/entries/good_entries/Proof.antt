@@ -1,28 +1,27 @@
 -- `good_entries`: the entries before i are good.
-use mathlib.Core.Path.{_≡_, refl}
 use Prim.Native.Nat.{_-_, _≤_}
 use native.Mathlib.Omega.{arith}
 use borrow.Author.Count.{below-none, below-more}
 use Rattle.common.specs.First.{holds, fails}
-use Rattle.keytable_rules.specs.Table.{entryAt, GoodEntries}
+use Rattle.keytable_rules.specs.Table.{GoodEntries}
 use Rattle.common.specs.Decided.{when-true, when-false}
 use Rattle.keytable.proofs.entries.good_entries.Statement.{statement}
 use Rattle.keytable.proofs.entries.good_entries.Tie as tie
 
 abbrev Inv-loop : tie.InvT-loop
-Inv-loop table n first i₀ i = (i ≤ n) × GoodEntries table i × (first ≡ entryAt n)
+Inv-loop table n first i₀ i = (i ≤ n) × GoodEntries table i
 
 abbrev μ-loop : tie.MeasureT-loop
 μ-loop table n first i₀ i = n - i
 
 loop-holds : tie.Need-loop-holds Inv-loop μ-loop
-loop-holds c = (omega arith, below-none _, refl)
+loop-holds c = (omega arith, below-none _)
 
 good-entry-requires : tie.Need-good-entry-requires Inv-loop μ-loop
 good-entry-requires c κs = (omega arith, omega arith, omega arith)
 
 loop-again : tie.Need-loop-again Inv-loop μ-loop
-loop-again c = (omega arith, below-more _ _ (c .before .before .before .loop .inv .1) (when-true (c .before .good-entry .ensures) (c .if1 .taken)), c .before .before .before .loop .inv .2)
+loop-again c = (omega arith, below-more _ _ (c .before .before .before .loop .inv .1) (when-true (c .before .good-entry .ensures) (c .if1 .taken)))
 
 returns : tie.Need-returns Inv-loop μ-loop
 returns c = fails (λ g. when-false (c .before .good-entry .ensures) (c .if1 .left) (g _ (c .before .before .loop-test .taken)))
@@ -36,7 +35,6 @@ good-entries-spec =
     (tie.spec
     Inv-loop
     μ-loop
-    (λ c. omega arith) (λ c. omega arith)
     loop-holds
     good-entry-requires
     (λ c. omega arith) (λ c. omega arith)

@@ -15,24 +15,24 @@ Inv-loop table j id i₀ i = (i ≤ j) × ((k : ℕ) → k < i → idOf table k 
 abbrev μ-loop : tie.MeasureT-loop
 μ-loop table j id i₀ i = j - i
 
-area-requires : tie.Need-area-requires Inv-loop μ-loop
-area-requires c κs = (omega arith, c .before .pre .2 _ (c .before .pre .0) .id .ends)
+id-of-requires : tie.Need-id-of-requires Inv-loop μ-loop
+id-of-requires c κs = (omega arith, c .before .pre .2 _ (c .before .pre .0) .id .ends)
 
 loop-holds : tie.Need-loop-holds Inv-loop μ-loop
-loop-holds c = (omega arith, below-none _, c .area .ensures)
+loop-holds c = (omega arith, below-none _, c .id-of .ensures)
 
-area-requires-2 : tie.Need-area-requires-2 Inv-loop μ-loop
-area-requires-2 c κs = (omega arith, c .before .before .before .before .pre .2 (c .before .loop .i) (omega arith) .id .ends)
+id-of-requires-2 : tie.Need-id-of-requires-2 Inv-loop μ-loop
+id-of-requires-2 c κs = (omega arith, c .before .before .before .before .pre .2 (c .before .loop .i) (omega arith) .id .ends)
 
 returns : tie.Need-returns Inv-loop μ-loop
 returns c =
     let l = c .before .before .before .before in
-    fails (λ n. n _ (c .before .before .before .loop-test .taken) (sym (c .before .before .area2 .ensures) ∙ when-true (c .before .same .ensures) (c .if1 .taken) ∙ l .loop .inv .2))
+    fails (λ n. n _ (c .before .before .before .loop-test .taken) (sym (c .before .before .id-of2 .ensures) ∙ when-true (c .before .same .ensures) (c .if1 .taken) ∙ l .loop .inv .2))
 
 loop-again : tie.Need-loop-again Inv-loop μ-loop
 loop-again c =
     let l = c .before .before .before .before in
-    (omega arith, below-more _ _ (l .loop .inv .1) (λ e. when-false (c .before .same .ensures) (c .if1 .left) (c .before .before .area2 .ensures ∙ e ∙ sym (l .loop .inv .2))), l .loop .inv .2)
+    (omega arith, below-more _ _ (l .loop .inv .1) (λ e. when-false (c .before .same .ensures) (c .if1 .left) (c .before .before .id-of2 .ensures ∙ e ∙ sym (l .loop .inv .2))), l .loop .inv .2)
 
 returns-2 : tie.Need-returns-2 Inv-loop μ-loop
 returns-2 c = holds (λ k h. c .before .loop .inv .1 k (omega arith))
@@ -43,11 +43,9 @@ new-id-spec =
     (tie.spec
     Inv-loop
     μ-loop
-    (λ c. omega arith) (λ c. omega arith)
-    area-requires
+    id-of-requires
     loop-holds
-    (λ c. omega arith) (λ c. omega arith)
-    area-requires-2
+    id-of-requires-2
     (λ c κs. tt)
     returns
     (λ c. omega arith) (λ c. omega arith)
