@@ -13,12 +13,11 @@ use Rattle.common.specs.First.{Rule, _on_, Test, _when_, first, among, conditio
 use Rattle.common.specs.First.{first-stands, none-stands, in-range, agree-append, decides-lt, decides-not, decides-iff, stable}
 use Rattle.json_grammar.specs.Twice.{TwiceNamed, decides-twice}
 use Rattle.json_grammar.specs.Value.{Members, mnil, mcons, objectV, LMembers, lnil, lcons, named, plain, plainMembers}
-use Rattle.json_grammar.specs.Grammar.{Derivation, bytes, readingOf, depthOf, membersOf}
+use Rattle.json_grammar.specs.Grammar.{Derivation, Derived, bytes, readingOf, depthOf, membersOf}
 use Rattle.json_grammar.specs.Places.{Kind, stringK, numberK, trueK, falseK, nullK, arrayK, objectK, Found, no-member, found, member}
 use Rattle.json_grammar.specs.Reader.{Got, got, read}
 use Rattle.json_grammar.specs.Readings.{plain-of}
 use Rattle.json_grammar.specs.Complete.{complete}
-use Rattle.json_grammar.specs.Sound.{Derived}
 use Rattle.json_grammar.specs.Unique.{isGot, one-reading, read-decides}
 use Rattle.json_grammar.specs.Shown.{Shows}
 use Rattle.json_grammar.specs.ShownLaws.{shown}

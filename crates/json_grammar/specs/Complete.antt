@@ -8,8 +8,8 @@ use lib.Dec.{eqb}
 use lib.ListN.{length}
 use borrow.Author.Tests.{eqb-true, eq-eqb}
 use Rattle.json_grammar.specs.Bytes.{within, isWs, isDigit, isDigit19, isE}
-use Rattle.json_grammar.specs.Value.{Members, mnil, depth, depthValues, depthMembers, LItem, LItems, LMembers, stringL, numberL, arrayL}
-use Rattle.json_grammar.specs.Value.{objectL, item, inil, named, lnil}
+use Rattle.json_grammar.specs.Value.{Members, mnil, depth, depthValues, depthMembers, LValue, LItem, LMembers, stringL, numberL, arrayL}
+use Rattle.json_grammar.specs.Value.{objectL, item, named}
 use Rattle.json_grammar.specs.Grammar.{none, more, Ws, Token, Chars, Number, ValueTree, falseT, nullT, trueT, objectT, arrayT, numberT, stringT}
 use Rattle.json_grammar.specs.Grammar.{ObjectTree, object0, objectOf, MemberTree, pair, MembersTail, mend, mmore, ArrayTree, array0, arrayOf}
 use Rattle.json_grammar.specs.Grammar.{ElementsTail, eend, emore, Derivation}
@@ -19,12 +19,12 @@ use Rattle.json_grammar.specs.Grammar.{codesOf, readingValue, readingObj
 use Rattle.json_grammar.specs.Grammar.{readingOf, depthOf}
 use Rattle.json_grammar.specs.Grammar.{fromObject, pastObject, fromArray, pastArray, locatedValue, locatedObject, locatedMember, locatedMembers}
 use Rattle.json_grammar.specs.Grammar.{locatedArray, locatedElements, membersOf}
-use Rattle.json_grammar.specs.Reader.{Got, got, skip, ws, pastNumber, readNumber, word, valueLead, value, readObject, readValue}
+use Rattle.json_grammar.specs.Reader.{Got, got, over, skip, ws, pastNumber, readNumber, word, valueLead, deeper, placedItem, readObject, readValue}
 use Rattle.json_grammar.specs.Reader.{readMoreElements, readMoreMembers, read}
 use Rattle.json_grammar.specs.ByteLaws.{white-cases}
 use Rattle.json_grammar.specs.ReaderLaws.{no-bad, deeper-is, enough, skip-none, ws-yield, readValue-ws, readValue-yield}
 use Rattle.json_grammar.specs.Sequences.{Sequence, listed, members, elements}
-use Rattle.json_grammar.specs.Levels.{readElements, readInArray, readMember, readMembers, readInObject}
+use Rattle.json_grammar.specs.Levels.{readBare, readElements, readInArray, readMember, readMembers, readInObject}
 use Rattle.json_grammar.specs.Written.{longer}
 use Rattle.json_grammar.specs.Written
 use Rattle.json_grammar.specs.NumberLaws.{Stops, number-first, number-lead, complete-number}
@@ -112,20 +112,6 @@ array-elements (suc n) d s v y e = go (ws s) (readValue-ws (suc n) d s ∙ e) �
     go [] f = no-bad f
     go (b ∷ l) f = by b l (eqb b 0x5D) refl f
 
-array-case : (n d k : ℕ) (t : Token) (x : List ℕ) (w : Ws) (r : List ℕ) (vs : LItems) → length (yieldToken 0x5B t x) ≤ n → k < d
-    → ((m e : ℕ) → length x ≤ m → k ≤ e → readInArray m e (ws x) ≡ got vs (yieldMany w r))
-    → readValue n d (yieldToken 0x5B t x) ≡ got (item (yieldFrom 0x5B t x) (yieldMany w r) (arrayL vs)) (ws r)
-unfolding readValue yieldToken yieldFrom skip isWs valueLead
-array-case n d k t x w r vs h q f =
-    let z = yieldMany w r in
-    enough (λ m. readValue m d (yieldToken 0x5B t x)) _ n (length x) (omega (arith, longer (Written.token 0x5B (omega arith) t) x))
-    (λ m l. rw (
-      ws-yield (t .before) (0x5B ∷ yieldMany (t .after) x),
-      ws-yield (t .after) x,
-      deeper-is d k (λ e. readInArray m e (ws x)) (got vs z) q (λ e. f m e l),
-      ws-yield w r,
-    ))
-
 -- OBJECTS
 
 member-case : (n d : ℕ) (cs : Chars) (c : Token) (x y : List ℕ) (v : LItem) → length (yieldString cs (yieldToken 0x3A c x)) ≤ n → readValue n d x ≡ got v y
@@ -149,14 +135,32 @@ opened : (n d k : ℕ) (w : Ws) (x z : List ℕ) (ms : LMembers) → k < d
     → ((e : ℕ) → k ≤ e → readInObject n e (ws x) ≡ got ms z) → readObject n d (yieldMany w x) ≡ got ms z
 opened n d k w x z ms q f = rw (ws-yield w x) (deeper-is d k (λ e. readInObject n e (ws x)) (got ms z) q f)
 
-object-case : (n d k : ℕ) (t : Token) (x : List ℕ) (w : Ws) (r : List ℕ) (ms : LMembers) → length (yieldToken 0x7B t x) ≤ n → k < d
-    → ((m e : ℕ) → length x ≤ m → k ≤ e → readInObject m e (ws x) ≡ got ms (yieldMany w r))
-    → readValue n d (yieldToken 0x7B t x) ≡ got (item (yieldFrom 0x7B t x) (yieldMany w r) (objectL ms)) (ws r)
-unfolding readValue yieldToken yieldFrom skip isWs valueLead
-object-case n d k t x w r ms h q f =
-    let z = yieldMany w r in
-    enough (λ m. readValue m d (yieldToken 0x7B t x)) _ n (length x) (omega (arith, longer (Written.token 0x7B (omega arith) t) x))
-    (λ m l. rw (ws-yield (t .before) (0x7B ∷ yieldMany (t .after) x), opened m d k (t .after) x z ms q (λ e. f m e l), ws-yield w r))
+-- AN ARRAY OR AN OBJECT AS A VALUE: from its first byte b on, one level deeper, `inside` reads the rest past white space
+record Opens {A : Type 0} (b : ℕ) (f : A → LValue) (inside : ℕ → ℕ → List ℕ → Got A) : Type 0 where
+  black : isWs b ≡ false
+  small : b < 256
+  is : (n d : ℕ) (x : List ℕ) → readBare n d (b ∷ x) ≡ over f (deeper d (λ e. inside n e (ws x)))
+
+arrays : Opens 0x5B arrayL (λ n d x. readInArray n d x)
+unfolding isWs valueLead
+arrays = record { black = refl; small = omega arith; is = λ n d x. refl }
+
+objects : Opens 0x7B objectL (λ n d x. readInObject n d x)
+unfolding isWs valueLead
+objects = record { black = refl; small = omega arith; is = λ n d x. refl }
+
+opens-case : {A : Type 0} {b : ℕ} {f : A → LValue} {inside : ℕ → ℕ → List ℕ → Got A} → Opens b f inside
+    → (n d k : ℕ) (t : Token) (x : List ℕ) (w : Ws) (r : List ℕ) (a : A) → length (yieldToken b t x) ≤ n → k < d
+    → ((m e : ℕ) → length x ≤ m → k ≤ e → inside m e (ws x) ≡ got a (yieldMany w r))
+    → readValue n d (yieldToken b t x) ≡ got (item (yieldFrom b t x) (yieldMany w r) (f a)) (ws r)
+unfolding readValue yieldFrom
+opens-case {A} {b} {f} {inside} o n d k t x w r a h q g =
+    let y = yieldMany (t .after) x in
+    enough (λ m. readValue m d (yieldToken b t x)) _ n (length x) (omega (arith, longer (Written.token b (o .small) t) x))
+    (λ m l.
+    ap (λ (s : List ℕ). placedItem s (readBare m d s)) (token-first b (o .black) t x)
+    ∙ ap (placedItem (b ∷ y)) (o .is m d y)
+    ∙ rw (ws-yield (t .after) x, deeper-is d k (λ e. inside m e (ws x)) (got a (yieldMany w r)) q (λ e. g m e l), ws-yield w r))
 
 -- TREES
 
@@ -190,16 +194,14 @@ ObjectRead o r n d =
 array-value : (a : ArrayTree) (n d : ℕ) (r : List ℕ) → ((m e : ℕ) → ArrayRead a r m e) → length (yieldArray a r) ≤ n → depthValues (readingArray a) < d
     → readValue n d (yieldArray a r) ≡ got (item (fromArray a r) (pastArray a r) (arrayL (locatedArray a r))) (ws r)
 unfolding yieldArray insideArray fromArray pastArray locatedArray
-array-value (array0 b e) n d r f h k = array-case n d _ b (insideArray (array0 b e) r) (e .after) r inil h k f
-array-value (arrayOf b v vs e) n d r f h k =
-    array-case n d _ b (insideArray (arrayOf b v vs e) r) (e .after) r (locatedArray (arrayOf b v vs e) r) h k f
+array-value (array0 b e) n d r f h k = opens-case arrays n d _ b _ (e .after) r _ h k f
+array-value (arrayOf b v vs e) n d r f h k = opens-case arrays n d _ b _ (e .after) r _ h k f
 
 object-value : (o : ObjectTree) (n d : ℕ) (r : List ℕ) → ((m e : ℕ) → ObjectRead o r m e) → length (yieldObject o r) ≤ n → depthMembers (readingObject o) < d
     → readValue n d (yieldObject o r) ≡ got (item (fromObject o r) (pastObject o r) (objectL (locatedObject o r))) (ws r)
 unfolding yieldObject insideObject fromObject pastObject locatedObject
-object-value (object0 b e) n d r f h k = object-case n d _ b (insideObject (object0 b e) r) (e .after) r lnil h k f
-object-value (objectOf b m ms e) n d r f h k =
-    object-case n d _ b (insideObject (objectOf b m ms e) r) (e .after) r (locatedObject (objectOf b m ms e) r) h k f
+object-value (object0 b e) n d r f h k = opens-case objects n d _ b _ (e .after) r _ h k f
+object-value (objectOf b m ms e) n d r f h k = opens-case objects n d _ b _ (e .after) r _ h k f
 
 -- a member's depth, and that of the members after it
 abbrev pub depthMember : MemberTree → ℕ

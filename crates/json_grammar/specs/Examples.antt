@@ -12,13 +12,12 @@ use Rattle.json_grammar.specs.Value.{Value, Members, stringV, numberV, t
 use Rattle.json_grammar.specs.Value.{among, repeated, names, twice, LMembers, plain, plainMembers}
 use Rattle.json_grammar.specs.Grammar.{Many, none, more, Token, Derivation, objectOf, pair, mend, arrayT, array0, Chars, ccons, cnil, unescaped, utf8-1}
 use Rattle.json_grammar.specs.Grammar.{yieldMany, yieldToken, yieldFrom, yieldUtf8, yieldChar, yieldChars, yieldString, yieldValue, bytes}
-use Rattle.json_grammar.specs.Grammar.{codeUtf8, codeOf}
+use Rattle.json_grammar.specs.Grammar.{codeUtf8, codeOf, Derived}
 use Rattle.json_grammar.specs.Grammar.{codesOf, readingValue, readingOf, depthOf, fromArray, pastArray, locatedValue, membersOf}
 use Rattle.json_grammar.specs.Places.{Kind, stringK, numberK, trueK, falseK, nullK, arrayK, objectK, kindOf, Found, no-member, found, pos, margin}
 use Rattle.json_grammar.specs.Places.{placed, member}
 use Rattle.json_grammar.specs.Reader.{Got, bad, got, over, skip, isUnescaped1, charLead, escapeLeadOf, readChar, readChars, pastNumber, word, valueLead}
 use Rattle.json_grammar.specs.Reader.{readValue, read}
-use Rattle.json_grammar.specs.Sound.{Derived}
 use Rattle.json_grammar.specs.Unique.{not-derived, unique, one-reading}
 
 -- what a header reads as, at most 8 deep

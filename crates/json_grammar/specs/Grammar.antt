@@ -2,7 +2,7 @@
 use mathlib.Core.Path.{_≡_}
 use mathlib.Core.Bool.{Bool, true, false}
 use mathlib.Core.List.{List, [], _∷_}
-use Prim.Native.Nat.{ℕ}
+use Prim.Native.Nat.{ℕ, _≤_}
 use Rattle.json_grammar.specs.Bytes.{within, isWs, isDigit, isDigit19, isE, isSign, isUnescaped, isTail, allHex, hex4, code2, code3, code4, isHigh, isLow, isSurrogate, pairCode}
 use Rattle.json_grammar.specs.Value.{Value, Values, Members, stringV, numberV, trueV, falseV, nullV, arrayV, objectV, vnil, vcons, mnil, mcons, depth}
 use Rattle.json_grammar.specs.Value.{LItem, LItems, LMember, LMembers, stringL, numberL, trueL, falseL, nullL, arrayL, objectL, item, inil, icons, named, lnil, lcons}
@@ -311,6 +311,10 @@ readingOf t = readingObject (t .top)
 
 unfoldable pub depthOf : Derivation → ℕ
 depthOf t = depth (objectV (readingOf t))
+
+-- s is derived, at most d deep
+abbrev pub Derived : ℕ → List ℕ → Type 0
+Derived d s = (t : Derivation) × (bytes t ≡ s) × (depthOf t ≤ d)
 
 -- PLACES: the located reading of a tree that is followed by r
 

@@ -7,13 +7,13 @@ use Prim.Native.Nat.{ℕ, _+_}
 use native.Mathlib.Omega.{arith}
 use Rattle.common.specs.First.{Decides, holds, fails}
 use Rattle.json_grammar.specs.Value.{Members, objectV, depth, LMembers, plainMembers}
-use Rattle.json_grammar.specs.Grammar.{Derivation, bytes, readingOf, depthOf, membersOf}
+use Rattle.json_grammar.specs.Grammar.{Derivation, Derived, bytes, readingOf, depthOf, membersOf}
 use Rattle.json_grammar.specs.Places.{member}
 use Rattle.json_grammar.specs.Reader.{Got, bad, got, read}
 use Rattle.json_grammar.specs.ReaderLaws.{no-bad}
 use Rattle.json_grammar.specs.Readings.{plain-of}
 use Rattle.json_grammar.specs.Complete.{complete}
-use Rattle.json_grammar.specs.Sound.{Derived, derived, sound}
+use Rattle.json_grammar.specs.Sound.{derived, sound}
 
 -- ONE READING: two derivations of one text have the same members at the same places; ..
 pub unique : (t u : Derivation) → bytes t ≡ bytes u → membersOf t ≡ membersOf u
