@@ -8,6 +8,9 @@ use Rattle.common.specs.Ranges.{within}
 use Rattle.base64url_rules.specs.Alphabet.{value, character}
 use Rattle.base64url_rules.specs.Base64url.{encode, decode, alphabetic, unusedBits, strict}
 use Rattle.base64url_rules.specs.Fault.{firstOutside, fault}
+use Rattle.base64url_rules.specs.Outcome.{decodedTo, decoding, encodedTo, encoding}
+use Rattle.base64url_rules.specs.declared.Decoded.{Decoded}
+use Rattle.base64url_rules.specs.declared.Encoded.{Encoded}
 
 -- 36 46 48 50, and `JC4wMg`, with a character after it or in the place of its last
 abbrev pub bytes : List ℕ
@@ -30,11 +33,15 @@ pub record Examples : Type 0 where
   pub white-space : (strict (JC4wM (10 ∷ [])) ≡ false) × (fault (JC4wM (10 ∷ [])) ≡ some 5)
   -- `JC4wM+`: a character of plain base64
   pub other-alphabet : (strict (JC4wM (43 ∷ [])) ≡ false) × (fault (JC4wM (43 ∷ [])) ≡ some 5)
+  -- `-_-_`: the two characters that are neither letters nor digits
+  pub signs : (strict (45 ∷ 95 ∷ 45 ∷ 95 ∷ []) ≡ true) × (decode (45 ∷ 95 ∷ 45 ∷ 95 ∷ []) ≡ 251 ∷ 255 ∷ 191 ∷ [])
+  -- a buffer of just the right length is not too short
+  pub full : (decoding (JC4wM (103 ∷ [])) (0 ∷ 0 ∷ 0 ∷ 0 ∷ []) ≡ decodedTo (Decoded.Bytes 4) bytes) × (encoding bytes (0 ∷ 0 ∷ 0 ∷ 0 ∷ 0 ∷ 0 ∷ []) ≡ encodedTo (Encoded.Text 6) (JC4wM (103 ∷ [])))
   -- an empty text: strict, and no bytes
   pub empty : (strict [] ≡ true) × (decode [] ≡ []) × (fault [] ≡ none)
 
 pub examples : Examples
-unfolding encode decode character within value strict alphabetic unusedBits firstOutside fault
+unfolding encode decode character within value strict alphabetic unusedBits firstOutside fault decoding encoding
 examples =
     record {
       encodes = refl;
@@ -45,5 +52,7 @@ examples =
       padding = (refl, refl);
       white-space = (refl, refl);
       other-alphabet = (refl, refl);
+      signs = (refl, refl);
+      full = (refl, refl);
       empty = (refl, refl, refl);
     }

@@ -15,3 +15,5 @@ pub mod OutcomeLaws
 pub mod AlphabetLaws
 pub mod GroupLaws
 pub mod StrictGroups
+pub mod Listed
+pub mod Grouping

@@ -5,7 +5,7 @@ use mathlib.Core.Option.{Option, none, some}
 use Prim.Native.Nat.{ℕ}
 use lib.Dec.{leb}
 use lib.ListN.{length}
-pub use Rattle.common.specs.Buffer.{laid, cleared}
+use Rattle.common.specs.Buffer.{laid, cleared}
 use Rattle.base64url_rules.specs.Base64url.{encode, decode}
 use Rattle.base64url_rules.specs.Fault.{fault}
 use Rattle.base64url_rules.specs.declared.Decoded.{Decoded}

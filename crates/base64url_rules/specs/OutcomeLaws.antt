@@ -8,10 +8,11 @@ use native.Mathlib.Omega.{arith}
 use lib.Dec.{leb}
 use lib.ListN.{length}
 use borrow.Author.Tests.{le-leb, lt-leb, leb-true, leb-false}
+use Rattle.common.specs.Buffer.{laid, cleared}
 use Rattle.base64url_rules.specs.Base64url.{encode, decode, strict}
 use Rattle.base64url_rules.specs.Fault.{fault}
 use Rattle.base64url_rules.specs.FaultLaws.{strict-faultless}
-use Rattle.base64url_rules.specs.Outcome.{laid, cleared, Decoding, Encoding, decodedTo, encodedTo, refusal, judged, decoding, encoding}
+use Rattle.base64url_rules.specs.Outcome.{Decoding, Encoding, decodedTo, encodedTo, refusal, judged, decoding, encoding}
 use Rattle.base64url_rules.specs.declared.Decoded.{Decoded}
 use Rattle.base64url_rules.specs.declared.Encoded.{Encoded}
 

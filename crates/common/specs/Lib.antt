@@ -3,6 +3,7 @@ pub mod Ranges
 pub mod BigEndian
 pub mod LittleEndian
 pub mod Buffer
+pub mod Laid
 pub mod First
 pub mod Decided
 pub mod Same

@@ -1,15 +1,14 @@
 -- What clearing the buffers past the record's lengths leads to: what verifying gives.
 use mathlib.Core.Path.{_≡_, refl, sym, ap, _∙_}
-use mathlib.Core.List.{List, _++_}
+use mathlib.Core.List.{List}
 use Prim.Native.Nat.{ℕ, _-_, _≤_}
 use native.Mathlib.Nat.{sub-zero}
 use native.Mathlib.Omega.{arith}
-use lib.ListN.{length, take, drop, replicate, length-take, length-drop}
-use lib.Seq.{length-take-le}
+use lib.ListN.{length, take, drop, replicate, length-take}
 use borrow.Rule.Slice.PartMut.{putMid}
 use Rattle.common.specs.Buffer.{filled}
 use Rattle.common.specs.First.{first}
-use Rattle.base64url.proofs.LaidLaws.{tail, put-tail}
+use Rattle.common.specs.Laid.{cleared-from}
 use Rattle.jws_rules.specs.declared.Verified.{Verified}
 use Rattle.jws_rules.specs.Token.{headerOf, payloadOf}
 use Rattle.jws_rules.specs.Outcomes.{given, refused}
@@ -26,13 +25,6 @@ pub payload-within : {t T hb pb : List ℕ} {n : ℕ} {r : Verified} → Judged 
 payload-within (refusing z) = omega arith
 payload-within {t} {pb = pb} (accepting h p) = omega (arith, ap length p, length-take (length (payloadOf t)) pb)
 
--- a buffer whose part from n on was cleared: its first n bytes, then zeros
-pub cleared : (n room : ℕ) (b z : List ℕ) → length b ≡ room → n ≤ length b → z ≡ replicate (length (take (length b - n) (drop n b))) 0
-    → putMid n (length b - n) b z ≡ filled room (take n b)
-cleared n room b z e h k =
-    let m : length (take (length b - n) (drop n b)) ≡ room - length (take n b) = ap length (tail n b) ∙ omega (arith, length-drop n b, length-take-le n b h) in
-    put-tail n b z ∙ ap (λ (x : List ℕ). take n b ++ x) (k ∙ ap (λ (x : ℕ). replicate x 0) m)
-
 -- what is given, by the number that stands
 settled : (t T hb pb : List ℕ) (hr pr : ℕ) {n : ℕ} {r : Verified} → first (verifyTests t T hr pr) ≡ n → Judged t T hb pb n r
     → given r (filled hr (take (r .about .header) hb)) (filled pr (take (r .about .payload) pb)) ≡ verified t T hr pr
@@ -47,4 +39,4 @@ pub verified-is : (t T hb pb : List ℕ) (hr pr : ℕ) {zh zp : List ℕ} {r : V
     → zp ≡ replicate (length (take (length pb - r .about .payload) (drop (r .about .payload) pb))) 0
     → given r (putMid (r .about .header) (length hb - r .about .header) hb zh) (putMid (r .about .payload) (length pb - r .about .payload) pb zp) ≡ verified t T hr pr
 verified-is t T hb pb hr pr {zh} {zp} {r} j k l e f =
-    rw (cleared (r .about .header) hr hb zh k (header-within j) e, cleared (r .about .payload) pr pb zp l (payload-within j) f) (settled t T hb pb hr pr refl j)
+    rw (cleared-from (r .about .header) hr hb zh k (header-within j) e, cleared-from (r .about .payload) pr pb zp l (payload-within j) f) (settled t T hb pb hr pr refl j)

@@ -5,14 +5,15 @@ use Prim.Native.Nat.{ℕ, _+_, _-_, _≤_}
 use native.Mathlib.Numerals.{add-one}
 use native.Mathlib.Omega.{arith}
 use lib.ListN.{length, take, drop, set, length-append, length-drop, length-set}
-use lib.Seq.{take-at, take-suc-set, drop-set-lt, drop-drop, drop-append-add, length-take-le}
+use lib.Seq.{take-suc-set, drop-set-lt, drop-drop, drop-append-add, length-take-le}
 use borrow.Rule.Slice.PartMut.{putMid}
+use Rattle.common.specs.Buffer.{laid}
+use Rattle.common.specs.Laid.{part-from, put-from, take-laid}
 use Rattle.base64url_rules.specs.Base64url.{encode, encodedLength}
 use Rattle.base64url_rules.specs.LengthLaws.{length-encode}
-use Rattle.base64url_rules.specs.Outcome.{laid, Encoding, encodedTo, encoding}
+use Rattle.base64url_rules.specs.Outcome.{Encoding, encodedTo, encoding}
 use Rattle.base64url_rules.specs.OutcomeLaws.{roomy}
 use Rattle.base64url_rules.specs.declared.Encoded.{Encoded}
-use Rattle.base64url.proofs.LaidLaws.{tail, put-tail}
 use Rattle.hmac.specs.Hmac.{HMACSHA256}
 use Rattle.jws_rules.specs.Segments.{period, _dot_}
 use Rattle.jws_rules.specs.SegmentLaws.{length-dot}
@@ -56,11 +57,11 @@ module _ (s token : List ℕ) (at : ℕ) (fits : at + 1 + length (encode s) ≤ 
       → Front (take at token dot encode s) token (at + 1 + n) (putMid (at + 1) (length (dotted token at) - (at + 1)) (dotted token at) part)
   segment-front {part = part} e f =
       let out = take (length (dotted token at) - (at + 1)) (drop (at + 1) (dotted token at)) in
-      let all : out ≡ drop (at + 1) (dotted token at) = tail (at + 1) (dotted token at) in
+      let all : out ≡ drop (at + 1) (dotted token at) = part-from (at + 1) (dotted token at) in
       let room : length (encode s) ≤ length out = omega (arith, ap length all, length-drop (at + 1) (dotted token at), length-set token at period) in
       record {
         size = rw (size-is s f) segment-size;
-        buffer = put-tail (at + 1) (dotted token at) part ∙ segment-laid part (text-laid s out e room ∙ ap (laid (encode s)) all);
+        buffer = put-from (at + 1) (dotted token at) part ∙ segment-laid part (text-laid s out e room ∙ ap (laid (encode s)) all);
       }
 
 -- what stands past the front is as it was
@@ -68,7 +69,7 @@ past : (s u token : List ℕ) → drop (length (s ++ u)) (laid s token) ≡ drop
 past s u token = rw (length-append s u) (drop-append-add s (drop (length s) token) (length u) ∙ drop-drop (length u) (length s) token)
 
 front-is : (s token₀ : List ℕ) {n : ℕ} {token : List ℕ} → Front s token₀ n token → take n token ≡ s
-front-is s token₀ {n} f = ap (take n) (f .buffer) ∙ take-at s (drop (length s) token₀) n (sym (f .size))
+front-is s token₀ {n} f = ap (take n) (f .buffer) ∙ take-laid s token₀ n (sym (f .size))
 
 -- a segment written behind a front is part of one front
 pub front-more : (s u token₀ : List ℕ) {n m : ℕ} {token₁ token₂ : List ℕ}

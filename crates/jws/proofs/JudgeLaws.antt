@@ -9,9 +9,9 @@ use lib.ListN.{length, take, drop}
 use borrow.Author.Tests.{lt-ltb, le-ltb, eqb-false, eq-eqb, ne-eqb, not-true, not-false}
 use Rattle.common.specs.First.{_when_, first, first-next, first-within, first-after}
 use Rattle.common.specs.Decided.{test-false}
+use Rattle.common.specs.Laid.{part-from}
 use Rattle.common.specs.Same.{same, decides-same}
 use Rattle.base64url_rules.specs.Base64url.{decode, strict}
-use Rattle.base64url.proofs.LaidLaws.{tail}
 use Rattle.hmac.specs.Hmac.{HMACSHA256}
 use Rattle.hmac.specs.HmacLaws.{length-HMACSHA256}
 use Rattle.json.specs.Answers.{longest}
@@ -103,7 +103,7 @@ pub parts-open : {t hb pb : List ℕ} {a b hr pr : ℕ} {o : Opened} → Places 
     → OpensToken t hr pr o hb pb
 parts-open {t} {a = a} {b = b} p g =
     let e : front t ≡ take (a - 0) t = p .header ∙ ap (λ (n : ℕ). take n t) (sym (sub-zero a)) in
-    rw (e, p .payload, p .signature ∙ sym (tail (b + 1) t)) g
+    rw (e, p .payload, p .signature ∙ sym (part-from (b + 1) t)) g
 
 module _ (t T : List ℕ) {hb pb : List ℕ} {hr pr : ℕ} {o : Opened} (g : OpensToken t hr pr o hb pb) where
   pub refused-segments : {r : Verified} → (o .answer ≡ 0 → ⊥) → r ≡ refusalOf (o .answer) → Judged t T hb pb (first (laterTests t T hr pr)) r

@@ -1,24 +1,22 @@
 -- A buffer that is cleared past what the result speaks of.
 use mathlib.Core.Path.{_≡_, refl, ap, sym, subst, _∙_}
-use mathlib.Core.List.{List, _++_}
-use Prim.Native.Nat.{ℕ, _+_, _-_, _≤_}
+use mathlib.Core.List.{List}
+use Prim.Native.Nat.{ℕ, _-_, _≤_}
 use native.Mathlib.Omega.{arith}
-use lib.ListN.{length, take, drop, replicate, length-drop}
-use lib.Seq.{take-at, length-take-le}
+use lib.ListN.{length, take, drop, replicate}
 use borrow.Rule.Slice.PartMut.{putMid}
-use Rattle.base64url_rules.specs.Outcome.{laid}
-use Rattle.common.specs.Buffer.{filled}
+use Rattle.common.specs.Buffer.{filled, laid}
+use Rattle.common.specs.Laid.{cleared-from, take-laid}
 use Rattle.jws_rules.specs.declared.Signed.{Signed}
 use Rattle.jws_rules.specs.Outcomes.{SignOutcome, handed, unsigned, signedAs}
 use Rattle.jws.specs.Written.{Written, unsignedResult}
-use Rattle.jws.proofs.ClearLaws.{cleared}
 
 -- what the outer function hands back
 pub settled : (outcome : SignOutcome) (token₀ token z : List ℕ) {r : Signed} → Written outcome token₀ r token
     → z ≡ replicate (length (take (length token - r .length) (drop (r .length) token))) 0
     → handed r (putMid (r .length) (length token - r .length) token z) ≡ outcome
 settled outcome token₀ token z w k =
-    let b = cleared _ (length token₀) token z (w .kept) (w .within) k ∙ sym (w .front) in
+    let b = cleared-from _ (length token₀) token z (w .kept) (w .within) k ∙ sym (w .front) in
     λ i. record { gives = w .result i; token = b i }
 
 pub same-outcome : {outcome other : SignOutcome} {token₀ token : List ℕ} {r : Signed} → outcome ≡ other → Written outcome token₀ r token → Written other token₀ r token
@@ -38,7 +36,7 @@ hand t {token₀} {token} {n} e f m h k =
     rw (e, m)
     (record {
       result = refl;
-      front = ap (filled (length token₀)) (sym (ap (take (length t)) f ∙ take-at t (drop (length t) token₀) (length t) refl));
+      front = ap (filled (length token₀)) (sym (ap (take (length t)) f ∙ take-laid t token₀ (length t) refl));
       within = omega arith;
       kept = k;
     })

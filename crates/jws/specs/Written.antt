@@ -4,8 +4,7 @@ use mathlib.Core.List.{List, [], _∷_}
 use Prim.Native.Nat.{ℕ, _≤_}
 use lib.Dec.{ltb}
 use lib.ListN.{length, take}
-use Rattle.base64url_rules.specs.Outcome.{laid}
-use Rattle.common.specs.Buffer.{filled}
+use Rattle.common.specs.Buffer.{filled, laid}
 use Rattle.common.specs.First.{Test, _when_, first}
 use Rattle.jws_rules.specs.declared.Signed.{Signed}
 use Rattle.jws_rules.specs.Outcomes.{SignOutcome, signedAs, unsigned}

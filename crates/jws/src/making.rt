@@ -3,7 +3,7 @@ ghost use mathlib.Core.Path.{_≡_};
 ghost use Prim.Native.Nat.{_+_, _≤_};
 ghost use lib.ListN.{length, take};
 ghost use Rattle.base64url_rules.specs.Base64url.{encode};
-ghost use Rattle.base64url_rules.specs.Outcome.{laid};
+ghost use Rattle.common.specs.Buffer.{laid};
 ghost use Rattle.base64url_rules.specs.Tables.{characters};
 ghost use Rattle.json.specs.Answers.{longest};
 ghost use Rattle.jws_rules.specs.Segments.{_dot_};
@@ -20,8 +20,8 @@ fn segment(alphabet: &[u8; 64], bytes: &[u8], token: &mut [u8], at: usize) -> us
     ensures { λ r. ⌜ Front (take at (now (token .entry)) dot encode (now (bytes .entry))) (now (token .entry)) r (now (token .exit)) ⌝ }
 {
     token[at] = b'.';
-    base64url::encode_with(alphabet, bytes, &mut token[at + 1..]);
-    at + 1 + base64url::encoded_len(bytes)
+    base64url_encoding::encode_with(alphabet, bytes, &mut token[at + 1..]);
+    at + 1 + base64url_encoding::encoded_len(bytes)
 }
 
 // What the MAC is taken of, at the buffer's front (the JWS Signing Input, RFC 7515 section 2). The answer is its length.
@@ -29,8 +29,13 @@ fn signing_input(alphabet: &[u8; 64], header: &[u8], payload: &[u8], token: &mut
     requires { ⌜ (now alphabet ≡ characters) × (length (encode (now header)) + 1 + length (encode (now payload)) ≤ length (now token)) ⌝ }
     ensures { λ r. ⌜ Front (encode (now (header .entry)) dot encode (now (payload .entry))) (now (token .entry)) r (now (token .exit)) ⌝ }
 {
-    base64url::encode_with(alphabet, header, token);
-    segment(alphabet, payload, token, base64url::encoded_len(header))
+    base64url_encoding::encode_with(alphabet, header, token);
+    segment(
+        alphabet,
+        payload,
+        token,
+        base64url_encoding::encoded_len(header),
+    )
 }
 
 // Writes the token at the front of a buffer that has room for it. Each byte is written once, and the MAC is taken of what stands there.
@@ -38,7 +43,7 @@ fn compose(secret: &[u8], header: &[u8], payload: &[u8], token: &mut [u8])
     requires { ⌜ finishedLength (now header) (now payload) ≤ length (now token) ⌝ }
     ensures { λ _. ⌜ now (token .exit) ≡ laid (tokenOf (now (secret .entry)) (now (header .entry)) (now (payload .entry))) (now (token .entry)) ⌝ }
 {
-    let alphabet = base64url::alphabet();
+    let alphabet = base64url_encoding::alphabet();
     let n = signing_input(&alphabet, header, payload, token);
     let mac = hmac::hmac_sha256(secret, &token[0..n]);
     segment(&alphabet, &mac, token, n);
@@ -61,7 +66,7 @@ fn finish(secret: &[u8], header: &[u8], payload: &[u8], token: &mut [u8]) -> Sig
     if TOKEN_MOST < payload.len() {
         return refusal(1);
     }
-    let n = base64url::encoded_len(header) + base64url::encoded_len(payload) + 45;
+    let n = base64url_encoding::encoded_len(header) + base64url_encoding::encoded_len(payload) + 45;
     if TOKEN_MOST < n {
         return refusal(1);
     }

@@ -21,7 +21,7 @@ pub(crate) fn signature_in(table: &[u8; 256], text: &[u8]) -> Signature
     let strict = decode_segment(table, text, &mut bytes);
     Signature {
         strict,
-        whole: base64url::decoded_len(text) == 32,
+        whole: base64url_decoding::decoded_len(text) == 32,
         bytes,
     }
 }

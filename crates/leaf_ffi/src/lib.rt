@@ -4,8 +4,8 @@ ghost use Rattle.base64url_rules.specs.Outcome.{decoding, encoding};
 ghost use Rattle.sha2.specs.Hash.{SHA256};
 ghost use Rattle.hmac.specs.Hmac.{HMACSHA256};
 ghost use Rattle.leaf_ffi.specs.Words.{decodedWords, encodedWords, call, decodeCall, encodeCall};
-use base64url::Decoded;
-use base64url::Encoded;
+use base64url_decoding::Decoded;
+use base64url_encoding::Encoded;
 
 fn decoded_words(d: Decoded) -> [u64; 2]
     ensures { λ r. ⌜ r ≡ decodedWords d ⌝ }
@@ -32,7 +32,7 @@ fn encoded_words(e: Encoded) -> [u64; 2]
 pub extern "C" fn leaf_decode(text: &[u8], out: &mut [u8], answer: &mut [u64; 2])
     ensures { λ _. ⌜ call (now (answer .exit)) (now (out .exit)) ≡ decodeCall (decoding (now (text .entry)) (now (out .entry))) ⌝ }
 {
-    let d = base64url::decode(text, out);
+    let d = base64url_decoding::decode(text, out);
     *answer = decoded_words(d);
 }
 
@@ -42,7 +42,7 @@ pub extern "C" fn leaf_decode(text: &[u8], out: &mut [u8], answer: &mut [u64; 2]
 pub extern "C" fn leaf_encode(bytes: &[u8], out: &mut [u8], answer: &mut [u64; 2])
     ensures { λ _. ⌜ call (now (answer .exit)) (now (out .exit)) ≡ encodeCall (encoding (now (bytes .entry)) (now (out .entry))) ⌝ }
 {
-    let e = base64url::encode(bytes, out);
+    let e = base64url_encoding::encode(bytes, out);
     *answer = encoded_words(e);
 }
 

@@ -33,29 +33,29 @@ fn decoded(s: &[u8], out: &mut [u8]) {
         io::write_all(1, b"-");
         return;
     }
-    match base64url::decode(s, out) {
-        base64url::Decoded::Bytes(n) => {
+    match base64url_decoding::decode(s, out) {
+        base64url_decoding::Decoded::Bytes(n) => {
             if n <= out.len() {
                 text::put_hex(&out[0..n]);
             }
         }
-        base64url::Decoded::Fault(_) => {
+        base64url_decoding::Decoded::Fault(_) => {
             io::write_all(1, b"fault");
         }
-        base64url::Decoded::Short => {
+        base64url_decoding::Decoded::Short => {
             io::write_all(1, b"short");
         }
     }
 }
 
 fn encoded(s: &[u8], out: &mut [u8]) {
-    match base64url::encode(s, out) {
-        base64url::Encoded::Text(n) => {
+    match base64url_encoding::encode(s, out) {
+        base64url_encoding::Encoded::Text(n) => {
             if n <= out.len() {
                 text::put_text(&out[0..n]);
             }
         }
-        base64url::Encoded::Short => {
+        base64url_encoding::Encoded::Short => {
             io::write_all(1, b"short");
         }
     }

@@ -1,0 +1,5 @@
+-- Laws that the functions' proofs cite.
+pub mod RefusalLaws
+pub mod DecodeLaws
+pub mod RestLaws
+pub mod GroupTest
