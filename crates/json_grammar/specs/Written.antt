@@ -71,8 +71,8 @@ any w = record { written = w .written; least = omega arith; small = w .small; is
 in-range : (lo hi b : ℕ) → hi < 256 → within lo hi b ≡ true → b < 256
 in-range lo hi b h e = omega (arith, within-true lo hi b e)
 
-range : (lo hi b : ℕ) → hi < 256 → within lo hi b ≡ true → Writes 1 (λ r. b ∷ r)
-range lo hi b h e = byte b (in-range lo hi b h e)
+range : (lo hi b : ℕ) → within lo hi b ≡ true → hi < 256 → Writes 1 (λ r. b ∷ r)
+range lo hi b e h = byte b (in-range lo hi b h e)
 
 many : {p : ℕ → Bool} → ((b : ℕ) → p b ≡ true → b < 256) → (m : Many p) → Writes 0 (yieldMany m)
 unfolding yieldMany
@@ -90,19 +90,19 @@ token b h t = white (t .before) then byte b h then white (t .after)
 
 tail : (b : ℕ) → isTail b ≡ true → Writes 1 (λ r. b ∷ r)
 unfolding isTail
-tail b h = range 0x80 0xBF b (omega arith) h
+tail b h = range _ _ b h (omega arith)
 
 utf8 : (u : Utf8) → Writes 1 (yieldUtf8 u)
 unfolding yieldUtf8
-utf8 (utf8-1 b h) = range 0x00 0x7F b (omega arith) h
-utf8 (utf8-2 b c h k) = range 0xC2 0xDF b (omega arith) h then tail c k
-utf8 (utf8-E0 c d h k) = byte 0xE0 (omega arith) then range 0xA0 0xBF c (omega arith) h then tail d k
-utf8 (utf8-E1 b c d h k l) = range 0xE1 0xEC b (omega arith) h then tail c k then tail d l
-utf8 (utf8-ED c d h k) = byte 0xED (omega arith) then range 0x80 0x9F c (omega arith) h then tail d k
-utf8 (utf8-EE b c d h k l) = range 0xEE 0xEF b (omega arith) h then tail c k then tail d l
-utf8 (utf8-F0 c d e h k l) = byte 0xF0 (omega arith) then range 0x90 0xBF c (omega arith) h then tail d k then tail e l
-utf8 (utf8-F1 b c d e h k l m) = range 0xF1 0xF3 b (omega arith) h then tail c k then tail d l then tail e m
-utf8 (utf8-F4 c d e h k l) = byte 0xF4 (omega arith) then range 0x80 0x8F c (omega arith) h then tail d k then tail e l
+utf8 (utf8-1 b h) = range _ _ b h (omega arith)
+utf8 (utf8-2 b c h k) = range _ _ b h (omega arith) then tail c k
+utf8 (utf8-E0 c d h k) = byte 0xE0 (omega arith) then range _ _ c h (omega arith) then tail d k
+utf8 (utf8-E1 b c d h k l) = range _ _ b h (omega arith) then tail c k then tail d l
+utf8 (utf8-ED c d h k) = byte 0xED (omega arith) then range _ _ c h (omega arith) then tail d k
+utf8 (utf8-EE b c d h k l) = range _ _ b h (omega arith) then tail c k then tail d l
+utf8 (utf8-F0 c d e h k l) = byte 0xF0 (omega arith) then range _ _ c h (omega arith) then tail d k then tail e l
+utf8 (utf8-F1 b c d e h k l m) = range _ _ b h (omega arith) then tail c k then tail d l then tail e m
+utf8 (utf8-F4 c d e h k l) = byte 0xF4 (omega arith) then range _ _ c h (omega arith) then tail d k then tail e l
 
 short-small : (x : Short) → shortByte x < 256
 unfolding shortByte
@@ -117,7 +117,7 @@ short-small tab = omega arith
 
 hex : (b : ℕ) → isHex b ≡ true → Writes 1 (λ r. b ∷ r)
 unfolding isHex isDigit
-hex b h = either _ _ h (range 0x30 0x39 b (omega arith)) (range 0x41 0x46 b (omega arith))
+hex b h = either _ _ h (λ e. range 0x30 0x39 b e (omega arith)) (λ e. range 0x41 0x46 b e (omega arith))
 
 -- \uXXXX
 unicode-escape : (a b c d : ℕ) → allHex a b c d ≡ true → Writes 1 (λ r. 0x5C ∷ 0x75 ∷ a ∷ b ∷ c ∷ d ∷ r)
@@ -152,7 +152,7 @@ digits ds = many (λ b. in-range 0x30 0x39 b (omega arith)) ds
 
 some-digits : (ds : Digits1) → Writes 1 (yieldDigits1 ds)
 unfolding yieldDigits1 isDigit
-some-digits (digits1 b h ds) = range 0x30 0x39 b (omega arith) h then digits ds
+some-digits (digits1 b h ds) = range _ _ b h (omega arith) then digits ds
 
 minus-sign : (m : Minus) → Writes 0 (yieldMinus m)
 unfolding yieldMinus
@@ -162,7 +162,7 @@ minus-sign minus = any (byte 0x2D (omega arith))
 int : (i : Int) → Writes 1 (yieldInt i)
 unfolding yieldInt isDigit19
 int int-zero = byte 0x30 (omega arith)
-int (int-digits b h ds) = range 0x31 0x39 b (omega arith) h then digits ds
+int (int-digits b h ds) = range _ _ b h (omega arith) then digits ds
 
 frac : (f : Frac) → Writes 0 (yieldFrac f)
 unfolding yieldFrac
