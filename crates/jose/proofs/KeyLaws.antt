@@ -19,7 +19,7 @@ use Rattle.json_string.specs.declared.Resolved.{Resolved}
 use Rattle.json_string.specs.declared.Resolved.the-variants.{Bytes, Nothing as Unresolved}
 use Rattle.json_string.specs.Strings.{NameAt, textIs, resolved, resolvedTo, resolvedAt, resolvedToAt}
 use Rattle.json_string.specs.StringLaws.{name-resolved, name-resolved-to}
-use Rattle.json_string.specs.Utf8.{utf8}
+use Rattle.json_characters.specs.Utf8.{utf8}
 use Rattle.json_members.specs.declared.places.Kind.{Kind}
 use Rattle.json_members.specs.declared.places.Place.{Place as Span}
 use Rattle.keytable_rules.specs.declared.Found.{Found}

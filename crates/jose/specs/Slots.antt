@@ -12,7 +12,7 @@ use Rattle.common.specs.Same.{same}
 use Rattle.json_grammar.specs.Value.{Members, LItem, LItems, LMembers, item, named, lnil, lcons, plainItems}
 use Rattle.json_grammar.specs.Places.{Kind as Kinds, stringK}
 use Rattle.json_string.specs.Strings.{NameAt}
-use Rattle.json_string.specs.Utf8.{utf8}
+use Rattle.json_characters.specs.Utf8.{utf8}
 use Rattle.json_members.specs.declared.places.Kind.{Kind}
 use Rattle.json_members.specs.declared.places.Place.{Place as Span}
 use Rattle.json_members.specs.declared.steps.Entry.{Entry}

@@ -8,7 +8,7 @@ use native.Mathlib.Omega.{arith}
 use lib.ListN.{length}
 use Rattle.common.specs.First.{_when_, first, all-pass}
 use Rattle.json_grammar.specs.Value.{Value, Members}
-use Rattle.json_string.specs.Utf8.{utf8}
+use Rattle.json_characters.specs.Utf8.{utf8}
 use Rattle.keytable_rules.specs.declared.Found.{Found}
 use Rattle.keytable_rules.specs.declared.Found.the-variants.{At, Nothing}
 use Rattle.keytable_rules.specs.Key.{Key, find, only}

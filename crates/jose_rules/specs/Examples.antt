@@ -7,7 +7,7 @@ use Prim.Native.String.{String}
 use Rattle.common.specs.First.{first}
 use Rattle.common.specs.Ranges.{within, isDigit}
 use Rattle.json_grammar.specs.Value.{Value, Values, Members, stringV, numberV, trueV, arrayV, vnil, vcons, mnil, mcons, among, repeated}
-use Rattle.json_string.specs.Utf8.{utf8, octets}
+use Rattle.json_characters.specs.Utf8.{utf8, octets}
 use Rattle.decimal.specs.Integer.{integerOf, allDigits, after}
 use Rattle.common.specs.Same.{same}
 use Rattle.keytable_rules.specs.Key.{Key, find, only, allowsHS256, allowsFormat}

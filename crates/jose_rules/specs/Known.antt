@@ -13,7 +13,7 @@ use lib.ListN.{length}
 use Rattle.common.specs.First.{Decides, holds, fails, Agree, done, _by_, decides-or, decides-not, decides-iff, decides-eq, among, numbers, condition, earlier, NoneOf, first, first-stands, none-stands}
 use Rattle.json_grammar.specs.Value.{Value, Members, objectV, mnil, mcons, among as amongNames, repeated, names}
 use Rattle.json_grammar.specs.Twice.{ObjectIn, TwiceNamed, decides-repeated}
-use Rattle.json_string.specs.Utf8.{utf8}
+use Rattle.json_characters.specs.Utf8.{utf8}
 use Rattle.keytable_rules.specs.declared.Found.{Found}
 use Rattle.keytable_rules.specs.declared.Found.the-variants.{At, Nothing}
 use Rattle.keytable_rules.specs.Key.{Key, key, Distinct, Named, find, only, allowsHS256, allowsFormat}

@@ -10,7 +10,7 @@ use lib.ListN.{length}
 use Rattle.common.specs.First.{Rule, _on_, Decides}
 use Rattle.json_grammar.specs.Value.{Value, Members}
 use Rattle.json_grammar.specs.Twice.{Repeated}
-use Rattle.json_string.specs.Utf8.{utf8}
+use Rattle.json_characters.specs.Utf8.{utf8}
 use Rattle.keytable_rules.specs.Key.{Key, key, Named, allowsHS256, allowsFormat}
 use Rattle.jose_rules.specs.Names.{alg, kid, typ, cty, crit, fmt, HS256}
 use Rattle.jose_rules.specs.Members.{Has, Lacks, string, strings, integer, Says, Wrong, Some}

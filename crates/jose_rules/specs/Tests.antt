@@ -8,7 +8,7 @@ use lib.Signed.{ltZ}
 use Rattle.common.specs.First.{Test, _when_}
 use Rattle.common.specs.Same.{same}
 use Rattle.json_grammar.specs.Value.{Value, Members, mnil, mcons, repeated}
-use Rattle.json_string.specs.Utf8.{utf8}
+use Rattle.json_characters.specs.Utf8.{utf8}
 use Rattle.keytable_rules.specs.declared.Found.{Found}
 use Rattle.keytable_rules.specs.declared.Found.the-variants.{At, Nothing}
 use Rattle.keytable_rules.specs.Key.{Key, key, find, only, allowsHS256, allowsFormat}

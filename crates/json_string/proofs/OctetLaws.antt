@@ -1,37 +1,19 @@
--- Laws of octets, and of octets that stand in a word.
+-- Laws of octets that stand in a word.
 use mathlib.Core.Path.{_≡_, sym, ap, _∙_}
 use mathlib.Core.Bool.{_&&_}
-use mathlib.Core.List.{List, [], _∷_, _++_}
-use Prim.Native.Nat.{ℕ, _+_, _-_, _/_, _≤_, _<_, min}
+use mathlib.Core.List.{List, _++_}
+use Prim.Native.Nat.{ℕ, _+_, _-_, _≤_, _<_, min}
 use native.Mathlib.Omega.{arith}
 use native.Mathlib.Nat.{min-le-right}
 use lib.Dec.{eqb}
 use lib.ListN.{length, take, drop, getD, length-take, length-drop, length-append, drop-of-length-le}
 use lib.Seq.{getD-take}
-use borrow.Author.Tests.{le-leb, lt-leb, eq-eqb, ne-eqb}
+use borrow.Author.Tests.{eq-eqb, ne-eqb}
 use Rattle.common.specs.Same.{same, same-longer}
 use Rattle.json_string.specs.declared.End.the-variants.{At, Bad}
 use Rattle.json_string.specs.Ends.{at-byte}
-use Rattle.json_string.specs.Utf8.{tail, octets}
+use Rattle.json_characters.specs.Utf8.{octets}
 use Rattle.json_string.specs.Steps.{OctetsEnd}
-
--- THE ROWS OF THE TABLE
-
-pub one-octet : (c x : ℕ) → c ≤ 0x7F → x ≡ c → x ∷ [] ≡ octets c
-unfolding octets
-one-octet c x h e = rw (le-leb c 0x7F h, e)
-
-pub two-octets : (c x y : ℕ) → 0x7F < c → c ≤ 0x7FF → x ≡ 0xC0 + c / 64 → y ≡ tail c → x ∷ y ∷ [] ≡ octets c
-unfolding octets
-two-octets c x y l h e f = rw (lt-leb c 0x7F l, le-leb c 0x7FF h, e, f)
-
-pub three-octets : (c x y z : ℕ) → 0x7FF < c → c ≤ 0xFFFF → x ≡ 0xE0 + c / 4096 → y ≡ tail (c / 64) → z ≡ tail c → x ∷ y ∷ z ∷ [] ≡ octets c
-unfolding octets
-three-octets c x y z l h e f g = rw (lt-leb c 0x7F (omega arith), lt-leb c 0x7FF l, le-leb c 0xFFFF h, e, f, g)
-
-pub four-octets : (c x y z w : ℕ) → 0xFFFF < c → x ≡ 0xF0 + c / 262144 → y ≡ tail (c / 4096) → z ≡ tail (c / 64) → w ≡ tail c → x ∷ y ∷ z ∷ w ∷ [] ≡ octets c
-unfolding octets
-four-octets c x y z w l e f g h = rw (lt-leb c 0x7F (omega arith), lt-leb c 0x7FF (omega arith), lt-leb c 0xFFFF l, e, f, g, h)
 
 -- OCTETS IN A WORD: n of them, bs, from a place on
 

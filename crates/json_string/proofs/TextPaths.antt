@@ -12,12 +12,12 @@ use Rattle.common.specs.Same.{same, decides-same}
 use Rattle.json_grammar.specs.Reader.{Got, bad, got, over}
 use Rattle.json_string.specs.declared.End.{End}
 use Rattle.json_string.specs.declared.End.the-variants.{At, Bad}
-use Rattle.json_string.specs.declared.Scan.the-variants.{Code}
-use Rattle.json_string.specs.Characters.{CharAt}
+use Rattle.json_characters.specs.declared.Scan.the-variants.{Code}
+use Rattle.json_characters.specs.Characters.{CharAt}
 use Rattle.json_string.specs.Ends.{endOf, at-byte, pos-drop}
 use Rattle.json_string.specs.Strings.{textAt, stringEnd, given, sameOf, sameText, mix, mixAll, mixedAt, fingerprintAt, textIs}
 use Rattle.json_string.specs.TextLaws.{text-quote, text-step, text-some, given-over, given-same}
-use Rattle.json_string.specs.Utf8.{utf8}
+use Rattle.json_characters.specs.Utf8.{utf8}
 use Rattle.json_string.specs.Steps.{OctetsEnd}
 
 -- THE END OF A STRING

@@ -9,12 +9,12 @@ use borrow.Author.Tests.{le-leb, lt-leb}
 use Rattle.json_grammar.specs.Reader.{Got, bad, got, over}
 use Rattle.json_string.specs.declared.End.{End}
 use Rattle.json_string.specs.declared.End.the-variants.{At, Bad}
-use Rattle.json_string.specs.declared.Scan.the-variants.{Code}
+use Rattle.json_characters.specs.declared.Scan.the-variants.{Code}
 use Rattle.json_string.specs.declared.Resolved.the-variants.{Bytes, Nothing}
-use Rattle.json_string.specs.Characters.{CharAt}
+use Rattle.json_characters.specs.Characters.{CharAt}
 use Rattle.json_string.specs.Strings.{textAt, given, resolved, resolvedTo, resolvedAt, resolvedToAt}
 use Rattle.json_string.specs.TextLaws.{text-quote, text-step}
-use Rattle.json_string.specs.Utf8.{octets, utf8}
+use Rattle.json_characters.specs.Utf8.{octets, utf8}
 use Rattle.json_string.specs.Steps.{Wrote, Writes}
 
 -- a buffer of which the first n bytes were written

@@ -1,15 +1,13 @@
 -- Where a reader on lists ends in a slice, as a place; and the tools of laws on readers at places.
 use mathlib.Core.Path.{_≡_, refl, sym, ap, _∙_, subst}
-use mathlib.Core.List.{List, _∷_}
+use mathlib.Core.List.{List}
 use Prim.Native.Nat.{ℕ, _+_, _≤_, _<_}
 use native.Mathlib.Omega.{arith}
-use native.Mathlib.Numerals.{add-one}
-use lib.ListN.{length, drop, getD, length-drop}
-use lib.Seq.{drop-cons}
-use Rattle.json_grammar.specs.Endings.{Ending, at-ending, ending-of, ending-drop}
+use lib.ListN.{length, drop, length-drop}
 use Rattle.json_grammar.specs.Places.{pos}
 use Rattle.json_grammar.specs.Reader.{Got, bad, got, over}
 pub use Rattle.json_grammar.specs.ReaderLaws.{fuel}
+pub use Rattle.json_characters.specs.Places.{at-byte, pos-drop, pos-left}
 use Rattle.json_string.specs.declared.End.{End}
 use Rattle.json_string.specs.declared.End.the-variants.{At, Bad}
 
@@ -27,30 +25,13 @@ endOf s bad = Bad
 
 -- PLACES
 
--- the byte at a place, and the rest
-pub at-byte : (s : List ℕ) (at : ℕ) → at < length s → drop at s ≡ getD s at 0 ∷ drop (at + 1) s
-at-byte s at h = rw (add-one at) (drop-cons s at 0 h)
-
--- fewer bytes are left at a later place
-pub farther : (s : List ℕ) (i j : ℕ) → i < j → i < length s → length (drop j s) < length (drop i s)
-farther s i j k h = rw (length-drop i s, length-drop j s) (omega arith)
-
+-- fewer bytes are left at the next place
 pub left : (s : List ℕ) (at : ℕ) → at < length s → length (drop (at + 1) s) < length (drop at s)
-left s at h = farther s at (at + 1) (omega arith) h
+left s at h = rw (length-drop at s, length-drop (at + 1) s) (omega arith)
 
 -- fuel that is enough at a place is enough at a later one
 pub shorter : (s : List ℕ) (i j n : ℕ) → i ≤ j → length (drop i s) ≤ n → length (drop j s) ≤ n
 shorter s i j n k h = rw (length-drop j s) (omega (arith, length-drop i s))
-
--- the place of the bytes from i on
-pub pos-drop : (s : List ℕ) (i : ℕ) → i ≤ length s → pos s (drop i s) ≡ i
-unfolding pos
-pos-drop s i h = rw (length-drop i s) (omega arith)
-
--- the place of what is left of the bytes from i on, when some are taken
-pub pos-left : (s : List ℕ) (i : ℕ) {x : List ℕ} → Ending (drop i s) x → length x < length (drop i s) → (i + 1 ≤ pos s x) × (pos s x ≤ length s) × (x ≡ drop (pos s x) s)
-unfolding pos
-pos-left s i {x} e h = let l = length-drop i s in (omega arith, omega arith, sym (at-ending (ending-of (ending-drop s i) e)))
 
 -- ENDS
 

@@ -6,13 +6,14 @@ use native.Mathlib.Omega.{arith}
 use lib.ListN.{length, drop}
 use Rattle.common.specs.Same.{same}
 use Rattle.json_grammar.specs.Reader.{Got, bad, got, readChars}
-use Rattle.json_grammar.specs.CharLaws.{chars-sound, chars-fuel}
+use Rattle.json_grammar.specs.CharLaws.{chars-sound, chars-read, chars-fuel}
 use Rattle.json_grammar.specs.Endings.{ending-of, ending-byte}
 use Rattle.json_grammar.specs.Written.{chars, longer}
 use Rattle.json_string.specs.declared.End.{End}
 use Rattle.json_string.specs.Ends.{Ends, endOf, pos-left, by}
 use Rattle.json_string.specs.Strings.{stringEnd, StringEnds, NameAt, textAt, given, sameOf, sameText, mixAll, fingerprintAt, mixedAt, textIs, resolved, resolvedTo, resolvedAt, resolvedToAt}
-use Rattle.json_string.specs.Utf8.{utf8}
+use Rattle.json_characters.specs.Utf8.{utf8, Scalar, Each}
+use Rattle.json_characters.specs.Utf8Laws.{scalar-codes}
 
 module _ (s : List ℕ) (p : ℕ) (cs : List ℕ) (h : NameAt s p cs) where
   pub name-text : (r : List ℕ) × (textAt s p ≡ got cs r)
@@ -60,3 +61,10 @@ string-ends s at {r} e n l =
 -- a callee's contract at the answer that it gave
 pub stringed : (s : List ℕ) (at : ℕ) {x y : End} → x ≡ y → x ≡ stringEnd s at → StringEnds s at y
 stringed s at e h = string-ends s at (sym e ∙ h)
+
+-- the code points of a string are those that have octets
+pub name-scalar : (s : List ℕ) (p : ℕ) (cs : List ℕ) → NameAt s p cs → Each Scalar cs
+unfolding NameAt
+name-scalar s p cs k =
+    let i = chars-read (k .0) (drop p s) cs (k .2) (k .1) (k .3) in
+    subst (Each Scalar) (i .2) (scalar-codes (i .0))

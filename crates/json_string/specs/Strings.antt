@@ -9,7 +9,7 @@ use Rattle.common.specs.Buffer.{laid, cleared}
 use Rattle.common.specs.Same.{same}
 use Rattle.json_grammar.specs.Reader.{Got, bad, got, readChars}
 use Rattle.json_string.specs.Ends.{Ends, endOf}
-use Rattle.json_string.specs.Utf8.{utf8}
+use Rattle.json_characters.specs.Utf8.{utf8}
 use Rattle.json_string.specs.declared.End.{End}
 use Rattle.json_string.specs.declared.Resolved.{Resolved}
 use Rattle.json_string.specs.declared.Resolved.the-variants.{Bytes, Nothing}

@@ -8,9 +8,9 @@ use lib.ListN.{length, drop, getD, drop-of-length-le}
 use borrow.Author.Tests.{ne-eqb}
 use Rattle.json_grammar.specs.Reader.{Got, bad, got, then, over, isUnescaped1, readChar, readChars}
 use Rattle.json_grammar.specs.CharLaws.{chars-fuel}
-use Rattle.json_string.specs.declared.Scan.the-variants.{Code, Wrong}
-use Rattle.json_string.specs.Characters.{CharAt}
-use Rattle.json_string.specs.CharacterLaws.{char-plain, plain-quote}
+use Rattle.json_characters.specs.declared.Scan.the-variants.{Code, Wrong}
+use Rattle.json_characters.specs.Characters.{CharAt}
+use Rattle.json_characters.specs.CharacterLaws.{char-plain, plain-quote}
 use Rattle.json_string.specs.Ends.{at-byte, shorter}
 use Rattle.json_string.specs.Strings.{textAt, given}
 

@@ -5,11 +5,11 @@ ghost use lib.ListN.{length};
 ghost use Rattle.json_string.specs.Strings.{sameText, textIs, mix, fingerprintAt};
 ghost use Rattle.json_string.specs.Steps.{OctetsEnd};
 use crate::End;
-use crate::Scan;
-use crate::classes::is_unescaped1;
-use crate::strings::char_at;
-use crate::utf8::octets_of;
 use common::wide;
+use json_characters::Scan;
+use json_characters::char_at;
+use json_characters::is_unescaped1;
+use json_characters::octets_of;
 
 // Whether strings stand at p in s and at q in t, and have the same code points. Rules out a prefix taken for the whole, and strings compared as
 // they are written, before their escapes are resolved.

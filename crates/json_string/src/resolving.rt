@@ -5,11 +5,11 @@ ghost use Rattle.json_string.specs.Strings.{resolvedAt, resolvedToAt};
 ghost use Rattle.json_string.specs.Steps.{Writes};
 use crate::End;
 use crate::Resolved;
-use crate::Scan;
-use crate::strings::char_at;
-use crate::utf8::octets_of;
 use common::copy_at;
 use common::zero;
+use json_characters::Scan;
+use json_characters::char_at;
+use json_characters::octets_of;
 
 // Writes the octets of the string at p to the front of `out`, and answers how many they are, if a string stands there and `out` has
 // room for it.

@@ -5,7 +5,7 @@ use Prim.Native.Nat.{_-_}
 use lib.ListN.{length}
 use borrow.Author.Needs.{needs}
 use Rattle.json_string.specs.Strings.{mixedAt, fingerprintAt}
-use Rattle.json_string.specs.CharacterLaws.{scanned, char-after}
+use Rattle.json_characters.specs.CharacterLaws.{scanned, char-after}
 use Rattle.json_string.specs.TextLaws.{text-out, text-quote, text-wrong, text-step, text-plain}
 use Rattle.json_string.proofs.TextPaths.{mixed-none, mixed-all, mixed-on}
 use Rattle.json_string.proofs.compare.fingerprint.Statement.{statement}

@@ -2,7 +2,7 @@
 use mathlib.Core.Path.{sym, _∙_}
 use native.Mathlib.Omega.{arith}
 use Prim.Native.Nat.{_≤_, _-_}
-use Rattle.json_string.specs.Utf8.{octets}
+use Rattle.json_characters.specs.Utf8.{octets}
 use Rattle.json_string.proofs.OctetLaws.{Passed, passed-none, passed-next, octet-at, octets-short, octets-differ, octets-all}
 use Rattle.json_string.proofs.compare.octets_end.Statement.{statement}
 use Rattle.json_string.proofs.compare.octets_end.Tie as tie

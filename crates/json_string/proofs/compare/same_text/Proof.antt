@@ -5,7 +5,7 @@ use lib.ListN.{length}
 use mathlib.Core.Path.{_≡_, refl, _∙_}
 use borrow.Author.Needs.{needs}
 use Rattle.json_string.specs.Strings.{sameText}
-use Rattle.json_string.specs.CharacterLaws.{scanned, char-after}
+use Rattle.json_characters.specs.CharacterLaws.{scanned, char-after}
 use Rattle.json_string.specs.TextLaws.{text-out, text-wrong}
 use Rattle.json_string.proofs.TextPaths.{same-none-i, same-none-j, same-quote-i, same-quote-j, same-step, same-differ}
 use Rattle.json_string.proofs.compare.same_text.Statement.{statement}

@@ -5,7 +5,7 @@ use lib.ListN.{length, drop}
 use mathlib.Core.Path.{_≡_, refl, _∙_}
 use borrow.Author.Needs.{needs}
 use Rattle.json_string.specs.Strings.{textIs}
-use Rattle.json_string.specs.CharacterLaws.{scanned, char-after, char-most}
+use Rattle.json_characters.specs.CharacterLaws.{scanned, char-after, char-most}
 use Rattle.json_string.specs.TextLaws.{text-out, text-wrong}
 use Rattle.json_string.proofs.TextPaths.{word-ended, word-after, is-none, is-quote, is-step, is-differ}
 use Rattle.json_string.proofs.compare.text_is.Statement.{statement}

@@ -6,9 +6,9 @@ use Prim.Native.Nat.{ℕ, _+_, _≤_, _-_}
 use lib.ListN.{length, take}
 use lib.Seq.{paste}
 use Rattle.json_string.specs.declared.End.{End}
-use Rattle.json_string.specs.Utf8.{octets}
+use Rattle.json_characters.specs.Utf8.{octets}
 use Rattle.json_string.specs.Steps.{Writes}
-use Rattle.json_string.specs.CharacterLaws.{scanned, char-after, char-most}
+use Rattle.json_characters.specs.CharacterLaws.{scanned, char-after, char-most}
 use Rattle.json_string.specs.TextLaws.{text-out, text-wrong}
 use Rattle.json_string.proofs.OctetLaws.{prefix-fits}
 use Rattle.json_string.proofs.WriteLaws.{Front, front-none, front-more, front-writes, writes-none, writes-quote, too-long, writes-long, writes-more}

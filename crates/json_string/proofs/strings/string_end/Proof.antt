@@ -5,7 +5,7 @@ use Prim.Native.Nat.{_-_}
 use lib.ListN.{length}
 use borrow.Author.Needs.{needs}
 use Rattle.json_string.specs.Strings.{stringEnd}
-use Rattle.json_string.specs.CharacterLaws.{scanned, char-after}
+use Rattle.json_characters.specs.CharacterLaws.{scanned, char-after}
 use Rattle.json_string.specs.TextLaws.{text-out, text-wrong, text-step, text-plain}
 use Rattle.json_string.proofs.TextPaths.{end-none, end-quote, end-on}
 use Rattle.json_string.proofs.strings.string_end.Statement.{statement}
