@@ -1,6 +1,6 @@
 -- Decoding a group more, and a rest.
 use mathlib.Core.Path.{_≡_, refl, ap, sym, _∙_}
-use mathlib.Core.Bool.{Bool, true, false, _&&_}
+use mathlib.Core.Bool.{Bool, true, false, _&&_, false≢true}
 use mathlib.Core.List.{List, [], _∷_}
 use Prim.Native.Nat.{ℕ, _+_, _-_, _*_, _/_, _%_, _≤_}
 use native.Mathlib.Omega.{arith}
@@ -11,12 +11,11 @@ use Rattle.common.specs.Laid.{three-stores, part-from}
 use Rattle.base64url_rules.specs.Base64url.{decode, alphabetic, unusedBits, strict}
 use Rattle.base64url_rules.specs.GroupLaws.{strict-append}
 use Rattle.base64url_rules.specs.Grouping.{decode-grouping, taken-more, group-more, then-rest}
-use Rattle.base64url_rules.specs.StrictGroups.{no}
 use Rattle.base64url_rules.specs.Tables.{entries}
 use Rattle.base64url_decoding.specs.Writing.{Decodes, Grouped}
 
 pub not-strict : {s out₀ out : List ℕ} → strict s ≡ false → Decodes s out₀ false out
-not-strict e = record { answer = sym e; bytes = λ t. absurd (no t) }
+not-strict e = record { answer = sym e; bytes = λ t. absurd (false≢true t) }
 
 pub nothing : (out : List ℕ) → Decodes [] out true out
 unfolding strict alphabetic unusedBits decode

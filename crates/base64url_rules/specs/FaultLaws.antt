@@ -1,7 +1,7 @@
 -- A text is strict exactly when it has no fault, and a fault has a place in the text or at its end.
 use mathlib.Core.Path.{_≡_, refl, sym, _∙_}
 use mathlib.Core.Logic.{_↔_}
-use mathlib.Core.Bool.{Bool, true, false, cond, not, _&&_}
+use mathlib.Core.Bool.{Bool, true, false, cond, not, _&&_, false≢true}
 use mathlib.Core.List.{List, [], _∷_}
 use mathlib.Core.Option.{none, some}
 use Prim.Native.Nat.{ℕ, suc, _-_, _≤_}
@@ -13,7 +13,6 @@ use borrow.Author.Tests.{lt-ltb, ltb-true}
 use Rattle.base64url_rules.specs.Alphabet.{inAlphabet}
 use Rattle.base64url_rules.specs.Base64url.{alphabetic, unusedBits, badLength, strict}
 use Rattle.base64url_rules.specs.Fault.{firstOutside, fault}
-use Rattle.base64url_rules.specs.StrictGroups.{no}
 
 outside : (s : List ℕ) → ltb (firstOutside s) (length s) ≡ not (alphabetic s)
 unfolding firstOutside alphabetic
@@ -30,9 +29,9 @@ never e = let z : _≡_ {A = ℕ} 0 1 = cc in omega arith
 -- the three rules, in the order of the faults
 rules : (a b u : Bool) (i j k : ℕ) → (a && (not b && u) ≡ true) ↔ (cond (not a) (some i) (cond b (some j) (cond u none (some k))) ≡ none)
 rules true false true i j k = (λ e. refl, λ e. refl)
-rules true false false i j k = (λ e. absurd (no e), λ e. absurd (never e))
-rules true true u i j k = (λ e. absurd (no e), λ e. absurd (never e))
-rules false b u i j k = (λ e. absurd (no e), λ e. absurd (never e))
+rules true false false i j k = (λ e. absurd (false≢true e), λ e. absurd (never e))
+rules true true u i j k = (λ e. absurd (false≢true e), λ e. absurd (never e))
+rules false b u i j k = (λ e. absurd (false≢true e), λ e. absurd (never e))
 
 pub strict-faultless : (s : List ℕ) → (strict s ≡ true) ↔ (fault s ≡ none)
 unfolding strict fault

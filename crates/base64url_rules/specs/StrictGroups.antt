@@ -1,9 +1,8 @@
 -- A strict text, group by group.
 use mathlib.Core.Path.{_≡_, refl, sym, _∙_}
-use mathlib.Core.Bool.{Bool, true, false, _&&_}
+use mathlib.Core.Bool.{Bool, true, false, _&&_, false≢true}
 use mathlib.Core.List.{List, [], _∷_}
 use Prim.Native.Nat.{ℕ, _%_, _<_}
-use native.Mathlib.Omega.{arith}
 use lib.Dec.{eqb}
 use borrow.Author.Tests.{ltb-true, eqb-true}
 use Rattle.base64url_rules.specs.Alphabet.{value, character, inAlphabet}
@@ -11,13 +10,9 @@ use Rattle.base64url_rules.specs.AlphabetLaws.{character-value}
 use Rattle.base64url_rules.specs.Base64url.{alphabetic, unusedBits, strict}
 use Rattle.base64url_rules.specs.GroupLaws.{strict-append, strict-groups}
 
--- no test is both false and true
-pub no : false ≡ true → ⊥
-no e = let z : _≡_ {A = ℕ} 0 1 = cc in omega arith
-
 pub both : (a b : Bool) → a && b ≡ true → (a ≡ true) × (b ≡ true)
 both true b e = (refl, e)
-both false b e = absurd (no e)
+both false b e = absurd (false≢true e)
 
 -- a character of the alphabet: it has a value, and is that value's character
 pub record Character (c : ℕ) : Type 0 where
@@ -45,7 +40,7 @@ pub data Strict : List ℕ → Type 0 where
 pub by-groups : (s : List ℕ) → strict s ≡ true → Strict s
 unfolding strict unusedBits
 by-groups [] e = nothing
-by-groups (a ∷ []) e = absurd (no (both (alphabetic (a ∷ [])) false e .1))
+by-groups (a ∷ []) e = absurd (false≢true (both (alphabetic (a ∷ [])) false e .1))
 by-groups (a ∷ b ∷ []) e =
     let p = both (alphabetic (a ∷ b ∷ [])) (eqb (value b % 16) 0) e in
     two (characters _ (p .0)) (eqb-true _ _ (p .1))

@@ -1,6 +1,6 @@
 -- A strict text has only characters of the alphabet. They are bytes, and none is a period: periods can stand between texts (RFC 7515 section 7.1).
 use mathlib.Core.Path.{_≡_, refl, ap, sym, _∙_}
-use mathlib.Core.Bool.{Bool, true, false, not, _&&_}
+use mathlib.Core.Bool.{Bool, true, false, not, _&&_, false≢true}
 use mathlib.Core.List.{List, [], _∷_}
 use Prim.Native.Nat.{ℕ, zero, suc, _<_}
 use native.Mathlib.Nat.{le-of-suc-le-suc, not-suc-le-zero}
@@ -14,7 +14,7 @@ use Rattle.base64url_rules.specs.Alphabet.{value, inAlphabet}
 use Rattle.base64url_rules.specs.AlphabetLaws.{character-below}
 use Rattle.base64url_rules.specs.Base64url.{encode, alphabetic, unusedBits, badLength, strict}
 use Rattle.base64url_rules.specs.RoundTrip.{strict-encode}
-use Rattle.base64url_rules.specs.StrictGroups.{no, both}
+use Rattle.base64url_rules.specs.StrictGroups.{both}
 
 pub strict-alphabetic : (s : List ℕ) → strict s ≡ true → alphabetic s ≡ true
 unfolding strict
@@ -47,7 +47,7 @@ unfolding within value
 period = refl
 
 differs : (c : ℕ) → inAlphabet c ≡ true → c ≡ 46 → ⊥
-differs c e p = no (sym period ∙ sym (ap inAlphabet p) ∙ e)
+differs c e p = false≢true (sym period ∙ sym (ap inAlphabet p) ∙ e)
 
 pub no-period-at : (s : List ℕ) (i : ℕ) → alphabetic s ≡ true → i < length s → getD s i 0 ≡ 46 → ⊥
 no-period-at s i e h = differs (getD s i 0) (alphabetic-at s i e h)

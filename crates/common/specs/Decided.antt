@@ -1,8 +1,6 @@
 -- What a test says of the condition that it decides.
 use mathlib.Core.Path.{_≡_, refl}
-use mathlib.Core.Bool.{Bool, true, false, not, _&&_}
-use Prim.Native.Nat.{ℕ}
-use native.Mathlib.Omega.{arith}
+use mathlib.Core.Bool.{Bool, true, false, not, _&&_, true≢false, false≢true}
 use Rattle.common.specs.First.{Decides, holds, fails, decides-iff, decides-and}
 
 -- both tests
@@ -13,11 +11,11 @@ d and e = decides-and d e
 -- from the test's value to the condition
 pub when-true : {P : Type 0} {b : Bool} → Decides P b → b ≡ true → P
 when-true (holds p) e = p
-when-true (fails p) e = let z : _≡_ {A = ℕ} 0 1 = cc in absurd (omega arith)
+when-true (fails p) e = absurd (false≢true e)
 
 pub when-false : {P : Type 0} {b : Bool} → Decides P b → b ≡ false → P → ⊥
 when-false (fails p) e = p
-when-false (holds p) e = let z : _≡_ {A = ℕ} 0 1 = cc in absurd (omega arith)
+when-false (holds p) e = absurd (true≢false e)
 
 -- `decides-iff` with the test first
 pub decides-by : {P Q : Type 0} {b : Bool} → Decides P b → (P → Q) → (Q → P) → Decides Q b
@@ -36,5 +34,5 @@ test-false (holds p) n = absurd (n p)
 test-false (fails p) n = refl
 
 pub decides-false : (b : Bool) → Decides (b ≡ false) (not b)
-decides-false true = fails (λ e. let z : _≡_ {A = ℕ} 0 1 = cc in omega arith)
+decides-false true = fails true≢false
 decides-false false = holds refl

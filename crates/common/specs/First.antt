@@ -1,7 +1,7 @@
 -- Numbered conditions in an order, and the first that holds. One theorem serves every call: `first-stands`.
 use mathlib.Core.Path.{_≡_, refl, sym, ap, _∙_, subst}
 use mathlib.Core.Logic.{_↔_, _⊎_, inl, inr, ⊎-elim}
-use mathlib.Core.Bool.{Bool, true, false, cond, not, _&&_, _||_}
+use mathlib.Core.Bool.{Bool, true, false, cond, not, _&&_, _||_, false≢true}
 use mathlib.Core.List.{List, [], _∷_, _++_}
 use Prim.Native.Nat.{ℕ, zero, suc, _≤_, _<_}
 use native.Mathlib.Omega.{arith}
@@ -62,25 +62,21 @@ pub data Agree : List Rule → List Test → Type 1 where
   _by_ : {n : ℕ} {P : Type 0} {b : Bool} {rs : List Rule} {ts : List Test} → Decides P b → ((P → ⊥) → Agree rs ts) → Agree ((n on P) ∷ rs) ((n when b) ∷ ts)
 
 infixr 40 _by_
--- true isn't false
-never : {P : Type 0} → false ≡ true → P
-never e = let z : _≡_ {A = ℕ} 0 1 = cc in absurd (omega arith)
-
 and-left : (a b : Bool) → a && b ≡ true → a ≡ true
 and-left true b e = refl
 and-left false b e = e
 
 and-right : (a b : Bool) → a && b ≡ true → b ≡ true
 and-right true b e = e
-and-right false b e = never e
+and-right false b e = absurd (false≢true e)
 
 not-is : (a : Bool) → not a ≡ true → a ≡ false
-not-is true e = never e
+not-is true e = absurd (false≢true e)
 not-is false e = refl
 
 or-left : (a b : Bool) → a ≡ true → a || b ≡ true
 or-left true b e = refl
-or-left false b e = never e
+or-left false b e = absurd (false≢true e)
 
 or-right : (a b : Bool) → b ≡ true → a || b ≡ true
 or-right true b e = refl
@@ -96,14 +92,14 @@ other done n z e f = eqb-false n 0 z (sym f)
 other (_by_ {n = m} {P = P} {b = b} {rs = rs} {ts = ts} d a) n z e f = go (eqb m n) refl b d (λ h. other (a h) n z) e f
   where
     go : (q : Bool) → eqb m n ≡ q → (b : Bool) → Decides P b → ((P → ⊥) → among n (numbers rs) ≡ false → first ts ≡ n → ⊥) → q || among n (numbers rs) ≡ false → first ((m when b) ∷ ts) ≡ n → ⊥
-    go true k b d ih e f = never (sym e)
+    go true k b d ih e f = absurd (false≢true (sym e))
     go false k true d ih e f = eqb-false m n k f
     go false k false (fails d) ih e f = ih d e f
 
 -- THE FIRST REFUSAL STANDS: the answer is n exactly when the condition of n holds and no earlier one does
 pub first-stands : {rs : List Rule} {ts : List Test} → Agree rs ts → distinct (numbers rs) ≡ true
     → (n : ℕ) → among n (numbers rs) ≡ true → (first ts ≡ n) ↔ (condition rs n × NoneOf (earlier rs n))
-first-stands done u n e = never e
+first-stands done u n e = absurd (false≢true e)
 first-stands (_by_ {n = m} {P = P} {b = b} {rs = rs} {ts = ts} d a) u n e =
     let v = and-left (not (eqb m 0) && not (among m (numbers rs))) (distinct (numbers rs)) u in
     go (eqb m n) refl b d (not-is _ (and-left (not (eqb m 0)) _ v)) (not-is _ (and-right (not (eqb m 0)) _ v))
@@ -148,7 +144,7 @@ in-range (_by_ {n = m} {P = P} {b = b} {rs = rs} {ts = ts} d a) = go b d (λ h. 
 -- decisions
 pub decides-bool : (b : Bool) → Decides (b ≡ true) b
 decides-bool true = holds refl
-decides-bool false = fails (λ e. never e)
+decides-bool false = fails false≢true
 
 pub decides-lt : (a b : ℕ) → Decides (a < b) (ltb a b)
 decides-lt a b = go (ltb a b) refl
@@ -248,7 +244,7 @@ Pass ((n when b) ∷ ts) = (b ≡ false) × Pass ts
 
 pub all-pass : (ts : List Test) → numbered ts ≡ true → first ts ≡ 0 → Pass ts
 all-pass [] u e = tt
-all-pass ((n when true) ∷ ts) u e = never (sym (ap (λ (b : Bool). not b && numbered ts) (eq-eqb n 0 e)) ∙ u)
+all-pass ((n when true) ∷ ts) u e = absurd (false≢true (sym (ap (λ (b : Bool). not b && numbered ts) (eq-eqb n 0 e)) ∙ u))
 all-pass ((n when false) ∷ ts) u e = (refl, all-pass ts (and-right (not (eqb n 0)) (numbered ts) u) e)
 
 pub first-next : (n : ℕ) {b : Bool} (ts : List Test) → b ≡ false → first ((n when b) ∷ ts) ≡ first ts

@@ -1,7 +1,7 @@
 -- `decode_with` meets its contract: either the bytes are written, or the text is not strict or does not fit, and the buffer is cleared.
 use mathlib.Core.Path.{_≡_, ap, sym, _∙_}
 use mathlib.Core.Logic.{⊎-elim}
-use mathlib.Core.Bool.{true}
+use mathlib.Core.Bool.{true, false≢true}
 use Prim.Native.Nat.{_<_}
 use native.Mathlib.Omega.{arith}
 use lib.ListN.{length}
@@ -9,7 +9,6 @@ use borrow.Author.Needs.{needs}
 use Rattle.base64url_rules.specs.Base64url.{decode, strict}
 use Rattle.base64url_rules.specs.LengthLaws.{length-decode}
 use Rattle.base64url_rules.specs.OutcomeLaws.{accepted, refused}
-use Rattle.base64url_rules.specs.StrictGroups.{no}
 use Rattle.base64url_decoding.proofs.decode_with.Statement.{statement}
 use Rattle.base64url_decoding.proofs.decode_with.Tie as tie
 
@@ -33,7 +32,7 @@ returns-2 c =
     let s = c .before .before .before .before .before .before .before .before .before .args .text .now in
     let out = c .before .before .before .before .before .before .before .before .before .args .out .now in
     let n : c .before .before .before .before .before .before .decoded-len .result ≡ length (decode s) = c .before .before .before .before .before .before .decoded-len .ensures ∙ sym (length-decode s) in
-    let short : strict s ≡ true → length out < length (decode s) = λ t. ⊎-elim (λ w. absurd (no (sym (w .5 .left) ∙ w .2 .ensures .answer ∙ t))) (λ w. omega arith) (c .before .before .before .before .before .if1 .came) in
+    let short : strict s ≡ true → length out < length (decode s) = λ t. ⊎-elim (λ w. absurd (false≢true (sym (w .5 .left) ∙ w .2 .ensures .answer ∙ t))) (λ w. omega arith) (c .before .before .before .before .before .if1 .came) in
     rw (c .refuse .ensures, c .before .before .before .zero .ensures, kept c) (refused s out short)
 
 pub decode-with-spec : {M : Type 1} → statement M

@@ -1,10 +1,10 @@
 -- `decode_group` meets its contract: one test for four values, and the three bytes.
+use mathlib.Core.Bool.{false≢true}
 use mathlib.Core.Path.{sym, _∙_}
 use native.Mathlib.Omega.{arith}
 use borrow.Author.Needs.{needs}
 use borrow.Author.Tests.{lt-ltb, le-ltb}
 use Rattle.base64url_rules.specs.Base64url.{decode}
-use Rattle.base64url_rules.specs.StrictGroups.{no}
 use Rattle.base64url_decoding.proofs.GroupTest.{Small, below, group-test}
 use Rattle.base64url_decoding.proofs.groups.decode_group.Statement.{statement}
 use Rattle.base64url_decoding.proofs.groups.decode_group.Tie as tie
@@ -30,7 +30,7 @@ unfolding decode
 returns c = record { answer = sym (group-test _ _ _ _ ∙ rw (← c .before .before .before .before .value-of .ensures, ← c .before .before .before .value-of2 .ensures, ← c .before .before .value-of3 .ensures, ← c .before .value-of4 .ensures) (lt-ltb _ 64 (c .if1 .taken))); bytes = λ _. rw (c .before .before .before .before .value-of .ensures, c .before .before .before .value-of2 .ensures, c .before .before .value-of3 .ensures, c .before .value-of4 .ensures) }
 
 returns-2 : tie.Need-returns-2
-returns-2 c = record { answer = sym (group-test _ _ _ _ ∙ rw (← c .before .before .before .before .value-of .ensures, ← c .before .before .before .value-of2 .ensures, ← c .before .before .value-of3 .ensures, ← c .before .value-of4 .ensures) (le-ltb _ 64 (c .if1 .left))); bytes = λ e. absurd (no e) }
+returns-2 c = record { answer = sym (group-test _ _ _ _ ∙ rw (← c .before .before .before .before .value-of .ensures, ← c .before .before .before .value-of2 .ensures, ← c .before .before .value-of3 .ensures, ← c .before .value-of4 .ensures) (le-ltb _ 64 (c .if1 .left))); bytes = λ e. absurd (false≢true e) }
 
 pub decode-group-spec : {M : Type 1} → statement M
 decode-group-spec =
