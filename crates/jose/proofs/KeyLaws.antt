@@ -21,7 +21,7 @@ use Rattle.json_string.specs.Strings.{NameAt, textIs, resolved, resolvedTo, res
 use Rattle.json_string.specs.StringLaws.{name-resolved, name-resolved-to}
 use Rattle.json_characters.specs.Utf8.{utf8}
 use Rattle.json_members.specs.declared.places.Kind.{Kind}
-use Rattle.json_members.specs.declared.places.Place.{Place as Span}
+use Rattle.json_rules.specs.declared.Place.{Place as Span}
 use Rattle.keytable_rules.specs.declared.Found.{Found}
 use Rattle.keytable_rules.specs.declared.Found.the-variants.{Nothing}
 use Rattle.keytable_rules.specs.Key.{Key, key, none as no-key, find, only, allowsHS256, allowsFormat}

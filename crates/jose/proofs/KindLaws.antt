@@ -12,7 +12,7 @@ use Rattle.json_string.specs.declared.End.{End}
 use Rattle.json_string.specs.declared.End.the-variants.{At, Bad}
 use Rattle.json_string.specs.Strings.{NameAt}
 use Rattle.json_members.specs.declared.places.Kind.{Kind}
-use Rattle.json_members.specs.declared.places.Place.{Place as Span}
+use Rattle.json_rules.specs.declared.Place.{Place as Span}
 use Rattle.json_members.specs.declared.steps.Item.{Item}
 use Rattle.json_members.specs.Members.{ElementsAt, ElementsFrom, FirstElement, ItemAt}
 use Rattle.json_members.specs.MemberLaws.{no-elements}

@@ -7,7 +7,7 @@ use Prim.Native.Nat.{ℕ, zero, suc}
 use native.Mathlib.Omega.{arith}
 use Rattle.common.specs.First.{Test, first, first-within, first-after}
 use Rattle.json_grammar.specs.Value.{Members}
-use Rattle.json.specs.Answers.{headerTests, checked}
+use Rattle.json_rules.specs.Answers.{headerTests, checked}
 use Rattle.keytable_rules.specs.Key.{Key}
 use Rattle.keytable_rules.specs.Table.{badTable, keys}
 use Rattle.jose_rules.specs.declared.Decision.{Decision}

@@ -14,8 +14,9 @@ use Rattle.json_members.specs.declared.steps.Entry.{Entry}
 use Rattle.json_members.specs.Members.{MembersAt, MembersFrom, TopMembers, EntryAt, ValueIs}
 use Rattle.json_members.specs.MemberLaws.{no-members}
 use Rattle.json_members.specs.StepLaws.{first-name}
-use Rattle.json.specs.Answers.{deepest, membersIn, checked}
-use Rattle.json.specs.AnswerLaws.{checked-read}
+use Rattle.json_rules.specs.Rules.{deepest}
+use Rattle.json_rules.specs.Answers.{membersIn, checked}
+use Rattle.json_rules.specs.AnswerLaws.{checked-read}
 use Rattle.jose.specs.declared.members.Slot.{Slot}
 use Rattle.jose.specs.declared.members.Slot.the-variants.{Absent, Is}
 use Rattle.jose.specs.declared.members.Known.{Known}

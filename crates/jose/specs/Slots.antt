@@ -14,10 +14,11 @@ use Rattle.json_grammar.specs.Places.{Kind as Kinds, stringK}
 use Rattle.json_string.specs.Strings.{NameAt}
 use Rattle.json_characters.specs.Utf8.{utf8}
 use Rattle.json_members.specs.declared.places.Kind.{Kind}
-use Rattle.json_members.specs.declared.places.Place.{Place as Span}
+use Rattle.json_rules.specs.declared.Place.{Place as Span}
 use Rattle.json_members.specs.declared.steps.Entry.{Entry}
 use Rattle.json_members.specs.Members.{MembersAt, ElementsAt, ValueIs, kindIn}
-use Rattle.json.specs.Answers.{deepest, kindNumber}
+use Rattle.json_rules.specs.Rules.{deepest}
+use Rattle.json_rules.specs.Answers.{kindNumber}
 use Rattle.keytable_rules.specs.declared.Found.{Found}
 use Rattle.keytable_rules.specs.Key.{Key, find, key, allowsHS256}
 use Rattle.jose_rules.specs.declared.Choice.{Choice}

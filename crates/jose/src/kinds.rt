@@ -4,7 +4,7 @@ ghost use mathlib.Core.Bool.{false};
 ghost use Prim.Native.Nat.{_<_};
 ghost use lib.ListN.{length};
 ghost use Rattle.json_grammar.specs.Places.{stringK, numberK, arrayK};
-ghost use Rattle.json.specs.Answers.{kindNumber};
+ghost use Rattle.json_rules.specs.Answers.{kindNumber};
 ghost use Rattle.json_members.specs.Members.{kindIn};
 ghost use Rattle.jose_rules.specs.HeaderTests.{reading};
 ghost use Rattle.jose_rules.specs.Members.{strings, valueOf};

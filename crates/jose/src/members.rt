@@ -2,7 +2,7 @@
 ghost use mathlib.Core.Path.{_≡_};
 ghost use Prim.Native.Nat.{_<_};
 ghost use lib.ListN.{length};
-ghost use Rattle.json.specs.Answers.{checked};
+ghost use Rattle.json_rules.specs.Answers.{checked};
 ghost use Rattle.jose.specs.Slots.{isThere, NoneKnown, Taken, Noted, Walked, Located};
 use json::DEEPEST;
 use json_members::Entry;

@@ -9,8 +9,8 @@ use Rattle.json_grammar.specs.Twice.{TwiceNamed}
 use Rattle.json_grammar.specs.Value.{Members, mnil, objectV, LMember, LMembers, named, lnil, lcons}
 use Rattle.json_grammar.specs.Places.{Member, placed}
 use Rattle.json_grammar.specs.Grammar.{Derivation, bytes, readingOf, depthOf, membersOf}
-use Rattle.json.specs.Answers.{deepest}
-use Rattle.json.specs.Promises.{grammarRules}
+use Rattle.json_rules.specs.Rules.{deepest}
+use Rattle.json_rules.specs.Rules.{grammarRules}
 use Rattle.keytable_rules.specs.Key.{Key}
 use Rattle.jose_rules.specs.declared.Place.{Place}
 use Rattle.jose_rules.specs.Names.{typ, cty}

@@ -17,8 +17,10 @@ use Rattle.json_grammar.specs.Readings.{plain-of}
 use Rattle.json_grammar.specs.Complete.{complete}
 use Rattle.json_grammar.specs.Unique.{one-reading}
 use Rattle.json_grammar.specs.Written.{derived-bytes}
-use Rattle.json.specs.Answers.{deepest, membersIn}
-use Rattle.json.specs.Promises.{grammarRules, derivation, grammar-agree}
+use Rattle.json_rules.specs.Rules.{deepest}
+use Rattle.json_rules.specs.Answers.{membersIn}
+use Rattle.json_rules.specs.Rules.{grammarRules}
+use Rattle.json_rules.specs.Promises.{derivation, grammar-agree}
 use Rattle.keytable_rules.specs.Key.{Key, Distinct}
 use Rattle.jose_rules.specs.declared.Place.{Place}
 use Rattle.jose_rules.specs.Names.{typ, cty}

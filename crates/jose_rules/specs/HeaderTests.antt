@@ -7,7 +7,8 @@ use Rattle.common.specs.Same.{same}
 use Rattle.json_grammar.specs.Value.{Members, LMembers, lnil, lcons, plainMembers}
 use Rattle.json_grammar.specs.Places.{placed}
 use Rattle.json_grammar.specs.Reader.{read}
-use Rattle.json.specs.Answers.{deepest, membersIn, grammarTests}
+use Rattle.json_rules.specs.Rules.{deepest}
+use Rattle.json_rules.specs.Answers.{membersIn, grammarTests}
 use Rattle.keytable_rules.specs.Key.{Key}
 use Rattle.jose_rules.specs.declared.Place.{Place}
 use Rattle.jose_rules.specs.Names.{typ, cty}

@@ -8,7 +8,7 @@ use Prim.Native.Nat.{ℕ, zero, suc, _<_}
 use lib.ListN.{length}
 use Rattle.common.specs.First.{Rule, _on_, Test, _when_, first, among, numbers, condition, earlier, NoneOf, Agree, _by_, first-stands, none-stands, decides-lt}
 use Rattle.common.specs.Decided.{test-false}
-use Rattle.json.specs.Answers.{longest}
+use Rattle.json_rules.specs.Rules.{longest}
 use Rattle.keytable_rules.specs.Key.{Distinct}
 use Rattle.keytable_rules.specs.Table.{Wellformed, badTable, keys}
 use Rattle.keytable_rules.specs.TableLaws.{decides-bad}

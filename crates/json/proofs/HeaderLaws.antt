@@ -1,52 +1,29 @@
 -- What a header answers, and its members: a law for each way through each function.
 use mathlib.Core.Path.{_≡_, refl, sym, ap, ap₂, _∙_, subst}
-use mathlib.Core.Bool.{Bool, true, false, not}
-use mathlib.Core.List.{List, [], _∷_}
+use mathlib.Core.List.{List}
 use Prim.Native.Nat.{ℕ, zero, suc, _-_, _≤_, _<_}
 use native.Mathlib.Omega.{arith}
 use lib.ListN.{length}
 use borrow.Author.Tests.{lt-ltb, le-ltb}
-use Rattle.common.specs.First.{_when_, first}
+use Rattle.common.specs.First.{first}
 use Rattle.json_grammar.specs.Value.{LMembers, item, named, lnil, lcons, plain}
 use Rattle.json_grammar.specs.Places.{Kind, kindOf, placed, member}
 use Rattle.json_grammar.specs.Reader.{Got, got, read}
-use Rattle.json_grammar.specs.ScanLaws.{scan-read}
 use Rattle.json_string.specs.declared.End.{End}
 use Rattle.json_string.specs.declared.End.the-variants.{At, Bad}
-use Rattle.json_reader.specs.Contracts.{isText}
 use Rattle.json_members.specs.declared.steps.Entry.{Entry}
-use Rattle.json_members.specs.Members.{MembersAt, MembersFrom, TopMembers, EntryAt, kindIn, place}
+use Rattle.json_members.specs.Members.{MembersAt, MembersFrom, TopMembers, EntryAt, kindIn}
 use Rattle.json_members.specs.MemberLaws.{no-members}
 use Rattle.json_members.specs.Steps.{topMembers}
 use Rattle.json_members.specs.StepLaws.{top-members}
-use Rattle.json.specs.declared.answer.Member.{Member}
-use Rattle.json.specs.declared.answer.Member.the-variants.{Refused}
-use Rattle.json.specs.Twice.{TwiceFrom}
-use Rattle.json.specs.Answers.{longest, deepest, membersIn, twiceIn, grammarTests, headerTests, checked, shownBy, answerFor, unlessRefused, memberOf, Picks}
-use Rattle.json.specs.AnswerLaws.{text-read, checked-read}
+use Rattle.json_rules.specs.declared.Member.{Member}
+use Rattle.json_rules.specs.declared.Member.the-variants.{Refused}
+use Rattle.json_rules.specs.Rules.{longest, deepest}
+use Rattle.json_rules.specs.Answers.{membersIn, grammarTests, headerTests, checked, place, shownBy, answerFor, unlessRefused, memberOf}
+use Rattle.json_rules.specs.AnswerLaws.{checked-read}
+use Rattle.json.specs.Picks.{Picks}
 
 -- THE HEADER'S ANSWER
-
-module _ (d : ℕ) (s : List ℕ) where
-  pub text-other : {b : Bool} → b ≡ isText d s → b ≡ false → 7 ≡ first (grammarTests d s)
-  unfolding isText
-  text-other e f = rw (sym e ∙ f)
-
-  module _ {b t : Bool} (e : b ≡ isText d s) (f : b ≡ true) (w : TwiceFrom s 0 d t) where
-    twice-is : first (grammarTests d s) ≡ first (8 when t ∷ [])
-    unfolding isText
-    twice-is =
-        let r = text-read d s (sym e ∙ f) in
-        let z : twiceIn (membersIn (read d s)) ≡ t =
-        ap (λ (g : Got LMembers). twiceIn (membersIn g)) (r .2) ∙ sym (scan-read (length s) d d s (r .0) (r .1) (r .2) (omega arith) (omega arith))
-        ∙ sym (w .is (length s) (omega arith)) in
-        rw (sym e ∙ f, z)
-
-    pub text-twice : t ≡ true → 8 ≡ first (grammarTests d s)
-    text-twice c = sym (twice-is ∙ ap (λ (x : Bool). first (8 when x ∷ [])) c)
-
-    pub text-fine : t ≡ false → 0 ≡ first (grammarTests d s)
-    text-fine c = sym (twice-is ∙ ap (λ (x : Bool). first (8 when x ∷ [])) c)
 
 pub check-long : (h : List ℕ) → longest < length h → 5 ≡ checked h
 unfolding checked headerTests

@@ -1,3 +1,2 @@
 -- Laws for the code's proofs.
-pub mod NameLaws
 pub mod HeaderLaws

@@ -1,37 +1,19 @@
 // What a header answers, and its members.
-use crate::answer::Member;
-use crate::names::twice_from;
+use json_check::check_text;
 use json_members::Kind;
-use json_members::Place;
 use json_members::entry_at;
 use json_members::top_members;
-use json_reader::text;
+use json_rules::DEEPEST;
+use json_rules::LONGEST;
+use json_rules::Member;
+use json_rules::Place;
 use json_string::End;
 ghost use mathlib.Core.Path.{_≡_};
 ghost use Prim.Native.Nat.{_<_};
 ghost use lib.ListN.{length};
 ghost use Rattle.json_members.specs.Members.{kindIn};
-ghost use Rattle.common.specs.First.{first};
-ghost use Rattle.json.specs.Answers.{grammarTests, checked, shownBy, memberOf, Picks};
-
-// The greatest length of a header, and the greatest depth, in which the top object is 1.
-pub const LONGEST: usize = 1024;
-
-pub const DEEPEST: usize = 8;
-
-// What a text of any length answers within the depth: 0 if it is read; 7 if it isn't derived by the grammar, or nests too deep; 8 if one object has a name twice.
-// Rules out 8 for a text that breaks off after two equal names, and 0 for two names that are equal after their escapes are resolved.
-pub fn check_text(s: &[u8], depth: usize) -> u8
-    ensures { λ r. ⌜ r ≡ first (grammarTests depth (now (s .entry))) ⌝ }
-{
-    if text(s, depth) {
-        if twice_from(s, 0, depth) {
-            return 8;
-        }
-        return 0;
-    }
-    7
-}
+ghost use Rattle.json_rules.specs.Answers.{checked, shownBy, memberOf};
+ghost use Rattle.json.specs.Picks.{Picks};
 
 // What a header answers: 5 if it is too long; else what its text answers within the greatest depth.
 // Rules out 7 for a header that is too long, and 0 for one of 1,025 bytes.

@@ -21,11 +21,11 @@ use Rattle.json_reader.specs.declared.values.Span.{Span}
 use Rattle.json_reader.specs.declared.values.Span.the-variants.{Found, Nowhere}
 use Rattle.json_reader.specs.EndsLaws.{given, none, bounds}
 use Rattle.json_reader.specs.ValueLaws.{trimmed-kind, no-trimmed, placed-at}
-use Rattle.json_members.specs.declared.places.Place.{Place}
+use Rattle.json_rules.specs.declared.Place.{Place}
 use Rattle.json_members.specs.declared.places.Kind.{Kind}
 use Rattle.json_members.specs.declared.steps.Item.{Item}
 use Rattle.json_members.specs.declared.steps.Entry.{Entry}
-use Rattle.json_members.specs.Members.{place}
+use Rattle.json_rules.specs.Answers.{place}
 use Rattle.json_members.specs.Steps.{firstIn, topIn, topMembers, firstMember, startIn, nextIn, kindFor, itemBy, noItem, itemIn, itemAt, entryBy, noEntry, entryIn, entryAt}
 
 -- a callee's contract at the answer that it gave

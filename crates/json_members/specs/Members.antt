@@ -10,7 +10,7 @@ use Rattle.json_string.specs.declared.End.{End}
 use Rattle.json_string.specs.declared.End.the-variants.{At, Bad}
 use Rattle.json_string.specs.Strings.{NameAt}
 use Rattle.json_reader.specs.Contracts.{readMembers, readElements, readArray}
-use Rattle.json_members.specs.declared.places.Place.{Place}
+use Rattle.json_rules.specs.declared.Place.{Place}
 use Rattle.json_members.specs.declared.places.Kind.{Kind}
 use Rattle.json_members.specs.declared.places.Kind.the-variants.{String, Number, True, False, Null, Array, Object}
 use Rattle.json_members.specs.declared.steps.Item.{Item}
@@ -75,9 +75,6 @@ kindIn False = falseK
 kindIn Null = nullK
 kindIn Array = arrayK
 kindIn Object = objectK
-
-abbrev pub place : ℕ → ℕ → Place
-place s e = record { start = s; end = e }
 
 -- the bytes of a part
 abbrev pub part : List ℕ → Place → List ℕ

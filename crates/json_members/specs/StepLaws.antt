@@ -22,10 +22,11 @@ use Rattle.json_string.specs.Ends.{at-byte}
 use Rattle.json_string.specs.Strings.{NameAt}
 use Rattle.json_reader.specs.Contracts.{readTrimmed, readArray, kindBy}
 use Rattle.json_reader.specs.ValueLaws.{trimmed-kind}
-use Rattle.json_members.specs.declared.places.Place.{Place}
+use Rattle.json_rules.specs.declared.Place.{Place}
+use Rattle.json_rules.specs.Answers.{place}
 use Rattle.json_members.specs.declared.steps.Item.{Item}
 use Rattle.json_members.specs.declared.steps.Entry.{Entry}
-use Rattle.json_members.specs.Members.{ReadsAt, ReadsFrom, MembersAt, MembersFrom, ElementsAt, ElementsFrom, FirstMember, FirstElement, TopMembers, kindIn, place, part, Holds, ValueIs, NameIs, ItemAt, EntryAt}
+use Rattle.json_members.specs.Members.{ReadsAt, ReadsFrom, MembersAt, MembersFrom, ElementsAt, ElementsFrom, FirstMember, FirstElement, TopMembers, kindIn, part, Holds, ValueIs, NameIs, ItemAt, EntryAt}
 use Rattle.json_members.specs.Steps.{firstIn, firstMember, firstElement, topIn, topMembers, startIn, nextIn, kindFor, itemBy, itemIn, itemAt, entryBy, entryIn, entryAt}
 
 -- Bad is no place

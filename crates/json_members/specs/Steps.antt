@@ -10,12 +10,12 @@ use Rattle.json_grammar.specs.Reader.{Got, bad, got, ws, readValue}
 use Rattle.json_grammar.specs.Levels.{readMember}
 use Rattle.json_string.specs.declared.End.{End}
 use Rattle.json_string.specs.declared.End.the-variants.{At, Bad}
-use Rattle.json_members.specs.declared.places.Place.{Place}
+use Rattle.json_rules.specs.declared.Place.{Place}
 use Rattle.json_members.specs.declared.places.Kind.{Kind}
 use Rattle.json_members.specs.declared.places.Kind.the-variants.{String, Number, True, False, Null, Array, Object}
 use Rattle.json_members.specs.declared.steps.Item.{Item}
 use Rattle.json_members.specs.declared.steps.Entry.{Entry}
-use Rattle.json_members.specs.Members.{place}
+use Rattle.json_rules.specs.Answers.{place}
 
 -- THE FIRST ONE
 

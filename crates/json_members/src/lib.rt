@@ -2,8 +2,8 @@
 mod places; // places.rt: kinds and places of values
 mod steps; // steps.rt: members of an object and elements of an array, one by one
 
+pub use json_rules::Place;
 pub use places::Kind;
-pub use places::Place;
 pub use steps::Entry;
 pub use steps::Item;
 pub use steps::entry_at;

@@ -1,17 +1,12 @@
 // Kinds and places of values.
+use json_rules::Place;
 ghost use mathlib.Core.Path.{_≡_};
 ghost use Prim.Native.Nat.{_+_, _-_, _<_};
 ghost use Rattle.json_grammar.specs.Places.{margin};
 ghost use Rattle.json_grammar.specs.Reader.{valueLead};
 ghost use Rattle.json_reader.specs.Contracts.{kindBy};
-ghost use Rattle.json_members.specs.Members.{place};
+ghost use Rattle.json_rules.specs.Answers.{place};
 ghost use Rattle.json_members.specs.Steps.{kindFor};
-
-// A part of a text: start is the place of its first byte, end the place after its last.
-pub struct Place {
-    pub start: usize,
-    pub end: usize,
-}
 
 // The seven kinds of value.
 pub enum Kind {

@@ -1,12 +1,12 @@
 // The members of an object and the elements of an array, one by one. A step reads its member or element once.
 use crate::places::Kind;
-use crate::places::Place;
 use crate::places::kind_by;
 use crate::places::place_by;
 use json_reader::Span;
 use json_reader::bare;
 use json_reader::skip_ws;
 use json_reader::value_span;
+use json_rules::Place;
 use json_string::End;
 use json_string::string_end;
 ghost use mathlib.Core.Path.{_≡_};

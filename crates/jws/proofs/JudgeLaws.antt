@@ -14,7 +14,7 @@ use Rattle.common.specs.Same.{same, decides-same}
 use Rattle.base64url_rules.specs.Base64url.{decode, strict}
 use Rattle.hmac.specs.Hmac.{HMACSHA256}
 use Rattle.hmac.specs.HmacLaws.{length-HMACSHA256}
-use Rattle.json.specs.Answers.{longest}
+use Rattle.json_rules.specs.Rules.{longest}
 use Rattle.keytable_rules.specs.Key.{key}
 use Rattle.keytable_rules.specs.Table.{badTable, keys}
 use Rattle.jose_rules.specs.declared.Choice.{Choice}

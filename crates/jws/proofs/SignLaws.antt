@@ -9,7 +9,7 @@ use borrow.Author.Tests.{lt-ltb, le-ltb}
 use Rattle.common.specs.First.{Rule, _on_, Test, _when_, first, Agree, _by_, none-stands, first-past, first-within, decides-lt}
 use Rattle.base64url_rules.specs.Base64url.{encodedLength}
 use Rattle.base64url_rules.specs.LengthLaws.{length-encode, encoded-length}
-use Rattle.json.specs.Answers.{longest}
+use Rattle.json_rules.specs.Rules.{longest}
 use Rattle.keytable_rules.specs.Key.{key}
 use Rattle.keytable_rules.specs.Table.{Wellformed, badTable, keys}
 use Rattle.keytable_rules.specs.TableLaws.{decides-bad}

@@ -5,7 +5,7 @@ ghost use lib.ListN.{length, take};
 ghost use Rattle.base64url_rules.specs.Base64url.{encode};
 ghost use Rattle.common.specs.Buffer.{laid};
 ghost use Rattle.base64url_rules.specs.Tables.{characters};
-ghost use Rattle.json.specs.Answers.{longest};
+ghost use Rattle.json_rules.specs.Rules.{longest};
 ghost use Rattle.jws_rules.specs.Segments.{_dot_};
 ghost use Rattle.jws_rules.specs.Token.{tokenOf, finishedLength};
 ghost use Rattle.jws_rules.specs.Tests.{signed};

@@ -3,8 +3,8 @@ use mathlib.Core.Bool.{cond}
 use mathlib.Core.List.{List, [], _∷_}
 use Prim.Native.Nat.{ℕ}
 use Rattle.json_grammar.specs.Places.{Found, no-member, found}
-use Rattle.json.specs.declared.answer.Member.{Member}
-use Rattle.json.specs.Answers.{valuesOf, kindNumber}
+use Rattle.json_rules.specs.declared.Member.{Member}
+use Rattle.json_rules.specs.Answers.{valuesOf, kindNumber}
 use Rattle.jws_rules.specs.declared.Record.{Record}
 use Rattle.jws_rules.specs.Outcomes.{VerifyOutcome, SignOutcome}
 

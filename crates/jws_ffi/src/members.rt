@@ -3,7 +3,7 @@ use json::Member;
 use json::Place;
 ghost use mathlib.Core.Path.{_≡_};
 ghost use mathlib.Core.List.{[], _∷_};
-ghost use Rattle.json.specs.Answers.{memberOf, numberOf};
+ghost use Rattle.json_rules.specs.Answers.{memberOf, numberOf};
 ghost use Rattle.jws_ffi.specs.Words.{memberWords};
 
 pub struct Answer {

@@ -12,7 +12,7 @@ use Rattle.common.specs.Decided.{test-false}
 use Rattle.common.specs.Same.{decides-same}
 use Rattle.base64url_rules.specs.Base64url.{encode, strict}
 use Rattle.base64url_rules.specs.RoundTrip.{strict-encode, decode-bytes}
-use Rattle.json.specs.Answers.{longest}
+use Rattle.json_rules.specs.Rules.{longest}
 use Rattle.keytable_rules.specs.Table.{Wellformed, keys}
 use Rattle.keytable_rules.specs.TableLaws.{decides-good}
 use Rattle.jose_rules.specs.Header.{heading, HeaderChooses}

@@ -13,8 +13,8 @@ use borrow.Author.Tests.{le-leb, lt-leb, le-ltb}
 use Rattle.common.specs.Bytes.{Bytes}
 use Rattle.common.specs.Buffer.{filled}
 use Rattle.common.specs.First.{NoneOf, condition, earlier, numbers, among, first-stands, none-stands, in-range, not-on, _also_}
-use Rattle.json.specs.Answers.{longest}
-use Rattle.json.specs.Promises.{memberNumber, Read, member-first, read-exactly}
+use Rattle.json_rules.specs.Rules.{longest}
+use Rattle.json_rules.specs.Promises.{memberNumber, Read, member-first, read-exactly}
 use Rattle.keytable_rules.specs.Key.{Key}
 use Rattle.keytable_rules.specs.Table.{Wellformed, keys}
 use Rattle.jose_rules.specs.Header.{HeaderChoice, HeaderChooses}

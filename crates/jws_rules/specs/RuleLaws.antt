@@ -11,7 +11,7 @@ use Rattle.common.specs.Decided.{when-false, decides-false}
 use Rattle.common.specs.Same.{same, decides-same}
 use Rattle.base64url_rules.specs.Base64url.{strict}
 use Rattle.hmac.specs.Hmac.{HMACSHA256}
-use Rattle.json.specs.Answers.{longest}
+use Rattle.json_rules.specs.Rules.{longest}
 use Rattle.keytable_rules.specs.Key.{Distinct}
 use Rattle.keytable_rules.specs.Table.{Wellformed, keys}
 use Rattle.keytable_rules.specs.TableLaws.{decides-bad}

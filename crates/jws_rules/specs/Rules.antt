@@ -10,7 +10,7 @@ use Rattle.common.specs.Bytes.{Bytes}
 use Rattle.common.specs.First.{Rule, _on_}
 use Rattle.base64url_rules.specs.Base64url.{strict}
 use Rattle.hmac.specs.Hmac.{HMACSHA256}
-use Rattle.json.specs.Answers.{longest}
+use Rattle.json_rules.specs.Rules.{longest}
 use Rattle.keytable_rules.specs.Table.{Wellformed, keys}
 use Rattle.jose_rules.specs.Header.{heading, HeaderChoice, HeaderChooses}
 use Rattle.jws_rules.specs.declared.Record.{Record}

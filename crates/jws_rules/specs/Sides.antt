@@ -12,7 +12,7 @@ use Rattle.json_grammar.specs.Unique.{not-derived}
 use Rattle.base64url_rules.specs.Base64url.{encode, decode, alphabetic, unusedBits, strict}
 use Rattle.base64url_rules.specs.LengthLaws.{length-encode}
 use Rattle.hmac.specs.HmacLaws.{length-HMACSHA256}
-use Rattle.json.specs.Answers.{deepest}
+use Rattle.json_rules.specs.Rules.{deepest}
 use Rattle.keytable_rules.specs.Table.{Wellformed, keys}
 use Rattle.jose_rules.specs.HeaderLaws.{header-chooses}
 use Rattle.jose_rules.specs.Promises.{distinct}

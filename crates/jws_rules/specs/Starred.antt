@@ -10,9 +10,9 @@ use Rattle.json_grammar.specs.Bytes.{within, isWs, isDigit, isDigit19, isE, isS
 use Rattle.json_grammar.specs.Value.{among, repeated, names, twice, plain, plainMembers}
 use Rattle.json_grammar.specs.Grammar.{Derivation, bytes, readingOf}
 use Rattle.json_grammar.specs.Reader.{read, readValue, readChars, readChar, charLead, escapeLeadOf, isUnescaped1, pastNumber, word, valueLead, skip}
-use Rattle.json_members.specs.Members.{place}
-use Rattle.json.specs.declared.answer.Member.the-variants.{Refused as RefusedMember, Array, String as Text}
-use Rattle.json.specs.Rows.{answers, rows}
+use Rattle.json_rules.specs.Answers.{place}
+use Rattle.json_rules.specs.declared.Member.the-variants.{Refused as RefusedMember, Array, String as Text}
+use Rattle.json_rules.specs.Rows.{answers, rows}
 use Rattle.keytable_rules.specs.Key.{Key}
 use Rattle.decimal.specs.Integer.{integerOf, allDigits, after}
 use Rattle.jose_rules.specs.declared.Decision.{Decision}

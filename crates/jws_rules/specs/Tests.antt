@@ -8,7 +8,7 @@ use Rattle.common.specs.First.{Test, _when_, first}
 use Rattle.common.specs.Same.{same}
 use Rattle.base64url_rules.specs.Base64url.{strict}
 use Rattle.hmac.specs.Hmac.{HMACSHA256}
-use Rattle.json.specs.Answers.{longest}
+use Rattle.json_rules.specs.Rules.{longest}
 use Rattle.keytable_rules.specs.Table.{badTable, keys}
 use Rattle.jose_rules.specs.Header.{HeaderChoice}
 use Rattle.jose_rules.specs.HeaderTests.{headingTests, headerChoice}

@@ -15,7 +15,7 @@ use Rattle.base64url_rules.specs.Outcome.{decodedTo, decoding}
 use Rattle.base64url_rules.specs.OutcomeLaws.{Judged, written, faulty, short, judge}
 use Rattle.base64url_rules.specs.declared.Decoded.{Decoded}
 use Rattle.base64url_rules.specs.declared.Decoded.the-variants.{Bytes, Fault, Short}
-use Rattle.json.specs.Answers.{longest}
+use Rattle.json_rules.specs.Rules.{longest}
 use Rattle.jws_segments.specs.declared.signature.Signature.{Signature}
 use Rattle.jws_segments.specs.declared.opening.Opened.{Opened}
 use Rattle.jws_segments.specs.Opening.{lengthTests, openTests, segmentTests, DecodedInto, Holds, Opens}

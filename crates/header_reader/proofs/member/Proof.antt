@@ -35,13 +35,13 @@ use denote.Triple.Spec.{Meets, tripleOf}
 use denote.Triple.Table.{entered, cited}
 use denote.Triple.Walked.{says, Stays, walkOf, Walks, ends-at, walked, walk-meets}
 use denote.Triple.Clauses.{ensured, lasts}
-use Rattle.json.specs.Answers.{memberOf}
+use Rattle.json_rules.specs.Answers.{memberOf}
 use Rattle.header_reader.specs.declared.HeaderReader.{HeaderReader}
-use Rattle.json.specs.declared.answer.Member.{Member}
+use Rattle.json_rules.specs.declared.Member.{Member}
 use Rattle.header_reader.proofs.HeaderReader.Laws as T′
 use Rattle.header_reader.proofs.Held.{Row, Own, sliceOf, held, held-goes, spelled, told, typed, twice, header-of}
-use Rattle.json.proofs.answer.Member as S
-use Rattle.json.proofs.answer.Member.Laws as S′
+use Rattle.json_rules.proofs.Member as S
+use Rattle.json_rules.proofs.Member.Laws as S′
 use Rattle.json.proofs.member as read
 use Rattle.json.proofs.member.Symbol as read-def
 use Rattle.json.proofs.member.Symbol.{name as #json·member}

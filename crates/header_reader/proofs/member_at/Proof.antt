@@ -35,10 +35,10 @@ use denote.Triple.Table.{entered, cited}
 use denote.Triple.Walked.{says, Stays, stay-none, stay-none-slice, walkOf, goes-none, goes-none-slice, Walks, ends-at, walked, walk-meets}
 use denote.Exit.{yes}
 use denote.Triple.Clauses.{ensured, lasts}
-use Rattle.json.specs.Answers.{memberOf}
-use Rattle.json.specs.declared.answer.Member.{Member}
-use Rattle.json.proofs.answer.Member as S
-use Rattle.json.proofs.answer.Member.Laws as S′
+use Rattle.json_rules.specs.Answers.{memberOf}
+use Rattle.json_rules.specs.declared.Member.{Member}
+use Rattle.json_rules.proofs.Member as S
+use Rattle.json_rules.proofs.Member.Laws as S′
 use Rattle.header_reader.specs.declared.HeaderReader.{HeaderReader}
 use Rattle.header_reader.proofs.HeaderReader.Laws as T′
 use Rattle.header_reader.proofs.Held.{Own, sliceOf, made}

@@ -4,7 +4,7 @@ use mathlib.Core.Path.{_≡_, sym, ap, _∙_}
 use mathlib.Core.Option.{some}
 use mir.Facts.{toZ-ofZ}
 use denote.Ref.{now}
-use Rattle.json.specs.Answers.{checked}
+use Rattle.json_rules.specs.Answers.{checked}
 use Rattle.jose_rules.specs.HeaderTests.{reading}
 use Rattle.jose_rules.specs.Members.{valueOf}
 use Rattle.jose_rules.specs.Only.{absent}

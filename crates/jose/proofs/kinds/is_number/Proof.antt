@@ -2,7 +2,7 @@
 use Prim.Native.Nat.{ℕ}
 use mathlib.Core.Path.{ap}
 use lib.Dec.{eqb}
-use Rattle.json.specs.Answers.{kindNumber}
+use Rattle.json_rules.specs.Answers.{kindNumber}
 use borrow.Author.Needs.{needs}
 use Rattle.jose.proofs.kinds.is_number.Statement.{statement}
 use Rattle.jose.proofs.kinds.is_number.Tie as tie

@@ -2,7 +2,7 @@
 use mathlib.Core.Path.{_≡_, sym, ap}
 use Rattle.json_members.specs.declared.places.Kind.{Kind}
 use Rattle.json_members.specs.Members.{kindIn}
-use Rattle.json.specs.Answers.{kindNumber}
+use Rattle.json_rules.specs.Answers.{kindNumber}
 use borrow.Author.Needs.{needs}
 use Rattle.jose.proofs.kinds.number_of.Statement.{statement}
 use Rattle.jose.proofs.kinds.number_of.Tie as tie

@@ -4,8 +4,8 @@ use native.Mathlib.Omega.{arith}
 use lib.ListN.{length}
 use borrow.Author.Needs.{needs}
 use Rattle.json_members.specs.StepLaws.{entry-at}
-use Rattle.json.specs.declared.answer.Member.{Member}
-use Rattle.json.specs.Answers.{Picks}
+use Rattle.json_rules.specs.declared.Member.{Member}
+use Rattle.json.specs.Picks.{Picks}
 use Rattle.json.proofs.HeaderLaws as law
 use Rattle.json.proofs.header.nth_member.Statement.{statement}
 use Rattle.json.proofs.header.nth_member.Tie as tie

@@ -1,6 +1,6 @@
 -- `answer_of` meets its contract: in each case the definitions compute to what the arm writes.
 use mathlib.Core.Path.{refl}
-use Rattle.json.specs.Answers.{numberOf, valuesOf, kindNumber}
+use Rattle.json_rules.specs.Answers.{numberOf, valuesOf, kindNumber}
 use Rattle.jws_ffi.specs.Words.{memberWords, foundWords}
 use borrow.Author.Needs.{needs}
 use Rattle.jws_ffi.proofs.members.answer_of.Statement.{statement}

@@ -1,0 +1,61 @@
+-- `twice_from` meets its contract.
+use mathlib.Core.Bool.{Bool}
+use Prim.Native.Nat.{_-_, _≤_}
+use native.Mathlib.Omega.{arith}
+use lib.ListN.{length}
+use borrow.Author.Needs.{needs}
+use Rattle.json_check.specs.Twice.{TwiceFrom}
+use Rattle.json_string.specs.StringLaws.{stringed}
+use Rattle.json_check.proofs.NameLaws as law
+use Rattle.json_check.proofs.names.twice_from.Statement.{statement}
+use Rattle.json_check.proofs.names.twice_from.Tie as tie
+
+abbrev Inv-loop : tie.InvT-loop
+Inv-loop s from depth at₀ at = (from ≤ at) × (at ≤ length s) × ((r : Bool) → TwiceFrom s at depth r → TwiceFrom s from depth r)
+
+abbrev μ-loop : tie.MeasureT-loop
+μ-loop s from depth at₀ at = length s - at
+
+loop-holds : tie.Need-loop-holds Inv-loop μ-loop
+loop-holds c = (omega arith, omega arith, λ r h. h)
+
+loop-less : tie.Need-loop-less Inv-loop μ-loop
+loop-less c = let k = law.string-bounds _ _ (stringed _ _ (c .before .e .given .1) (c .before .before .before .string-end .ensures)) in omega (arith, k .0, k .1, c .before .before .before .before .before .before .loop-test .taken)
+
+loop-again : tie.Need-loop-again Inv-loop μ-loop
+loop-again c = (omega (arith, law.string-bounds _ _ (stringed _ _ (c .before .e .given .1) (c .before .before .before .string-end .ensures)) .0), law.string-bounds _ _ (stringed _ _ (c .before .e .given .1) (c .before .before .before .string-end .ensures)) .1, λ r h. c .before .before .before .before .before .before .before .loop .inv .2 r (law.scan-past _ _ _ (c .before .before .before .before .before .before .loop-test .taken) (c .before .before .before .before .if1 .taken) (stringed _ _ (c .before .e .given .1) (c .before .before .before .string-end .ensures)) h))
+
+returns : tie.Need-returns Inv-loop μ-loop
+returns c = c .before .before .before .before .before .before .loop .inv .2 _ (law.scan-broken _ _ _ (c .before .before .before .before .before .loop-test .taken) (c .before .before .before .if1 .taken) (stringed _ _ (c .enum-told .given .1) (c .before .before .string-end .ensures)))
+
+returns-2 : tie.Need-returns-2 Inv-loop μ-loop
+returns-2 c = c .before .before .before .before .before .before .loop .inv .2 _ (law.scan-found _ _ _ (c .before .before .before .before .before .loop-test .taken) (c .before .before .if2 .taken) (c .before .object-twice .ensures) (c .if3 .taken))
+
+loop-again-2 : tie.Need-loop-again-2 Inv-loop μ-loop
+loop-again-2 c = (omega arith, omega arith, λ r h. c .before .before .before .before .before .before .loop .inv .2 r (law.scan-object _ _ _ (c .before .before .before .before .before .loop-test .taken) (c .before .before .if2 .taken) (c .before .object-twice .ensures) (c .if3 .left) h))
+
+loop-again-3 : tie.Need-loop-again-3 Inv-loop μ-loop
+loop-again-3 c = (omega arith, omega arith, λ r h. c .before .before .before .before .loop .inv .2 r (law.scan-other _ _ _ (c .before .before .before .loop-test .taken) (c .before .if1 .left) (c .if2 .left) h))
+
+returns-3 : tie.Need-returns-3 Inv-loop μ-loop
+returns-3 c = c .before .loop .inv .2 _ (law.scan-out _ (c .loop-test .left))
+
+pub twice-from-spec : {M : Type 1} → statement M
+twice-from-spec =
+    tie.close
+    (tie.spec
+    Inv-loop
+    μ-loop
+    loop-holds
+    (λ c. omega arith) (λ c. omega arith) (λ c κs. tt) (λ c. search needs)
+    loop-less
+    loop-again
+    (λ c. search needs)
+    returns
+    (λ c. omega arith) (λ c κs. omega arith)
+    returns-2
+    (λ c. omega arith) (λ c. omega arith)
+    loop-again-2
+    (λ c. omega arith) (λ c. omega arith)
+    loop-again-3
+    returns-3)

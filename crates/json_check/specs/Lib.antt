@@ -1,0 +1,2 @@
+-- Names that stand twice, as the search finds them.
+pub mod Twice

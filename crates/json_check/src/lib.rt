@@ -1,0 +1,22 @@
+// Whether a text is one JSON object within a depth, and whether an object in it has a name twice.
+mod names; // names.rt: names that stand twice in one object
+
+use crate::names::twice_from;
+use json_reader::text;
+ghost use mathlib.Core.Path.{_≡_};
+ghost use Rattle.common.specs.First.{first};
+ghost use Rattle.json_rules.specs.Answers.{grammarTests};
+
+// What a text of any length answers within the depth: 0 if it is read; 7 if it isn't derived by the grammar, or nests too deep; 8 if one object has a name twice.
+// Rules out 8 for a text that breaks off after two equal names, and 0 for two names that are equal after their escapes are resolved.
+pub fn check_text(s: &[u8], depth: usize) -> u8
+    ensures { λ r. ⌜ r ≡ first (grammarTests depth (now (s .entry))) ⌝ }
+{
+    if text(s, depth) {
+        if twice_from(s, 0, depth) {
+            return 8;
+        }
+        return 0;
+    }
+    7
+}

@@ -1,0 +1,6 @@
+-- The JSON header: its rules, what it answers, and the theorems on both.
+pub mod Rules
+pub mod Answers
+pub mod AnswerLaws
+pub mod Promises
+pub mod Rows

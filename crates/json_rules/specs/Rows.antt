@@ -1,0 +1,53 @@
+-- The specification's starred rows on headers, as rows of one theorem; and both sides of the length.
+use mathlib.Core.Path.{_≡_, refl, sym, _∙_}
+use mathlib.Core.List.{List}
+use Prim.Native.Nat.{ℕ, suc, _≤_, _<_}
+use native.Mathlib.Omega.{arith}
+use lib.ListN.{length}
+use Prim.Native.String.{String}
+use Rattle.common.specs.Same.{same}
+use Rattle.common.specs.Ascii.{ascii}
+use Rattle.json_grammar.specs.Bytes.{within, isWs, isDigit, isDigit19, isE, isSign, isHex, hexVal, allHex, hex4, isTail, code2, code3, code4, isHigh, isLow, isSurrogate, pairCode}
+use Rattle.json_grammar.specs.Value.{among, repeated, names, twice, plain}
+use Rattle.json_grammar.specs.Grammar.{Derivation, bytes, readingOf}
+use Rattle.json_grammar.specs.Places.{kindOf, pos, margin, placed, member}
+use Rattle.json_grammar.specs.Reader.{read, readValue, readChars, readChar, charLead, escapeLeadOf, isUnescaped1, pastNumber, word, valueLead, skip}
+use Rattle.json_grammar.specs.Unique.{one-reading}
+use Rattle.json_rules.specs.declared.Member.{Member}
+use Rattle.json_rules.specs.declared.Member.the-variants.{Refused, Array}
+use Rattle.json_rules.specs.declared.Member.the-variants.{String as Text}
+use Rattle.json_rules.specs.Answers.{headerTests, checked, place, answerFor, unlessRefused, memberOf}
+use Rattle.json_rules.specs.Promises.{header-first}
+
+-- what member k of a header answers
+unfoldable pub answers : String → ℕ → Member
+unfolding read readValue readChars readChar charLead escapeLeadOf isUnescaped1 pastNumber word valueLead skip
+    within isWs isDigit isDigit19 isE isSign isHex hexVal allHex hex4 isTail code2 code3 code4 isHigh isLow isSurrogate pairCode
+    same among repeated names twice plain kindOf pos margin placed member headerTests checked answerFor unlessRefused memberOf ascii
+answers h k = memberOf (ascii h) k
+
+pub rows :
+    -- read, one member
+    (answers "{\"alg\":\"HS256\"}" 0 ≡ Text (place 2 5) (place 8 13)) × ((k : ℕ) → answers "{\"alg\":\"HS256\"}" (suc k) ≡ Refused 16)
+    -- the same name after escapes are resolved
+    × ((k : ℕ) → answers "{\"alg\":\"HS256\",\"al\\u0067\":\"HS256\"}" k ≡ Refused 8)
+    -- a comma before the closing brace, a low surrogate alone
+    × ((k : ℕ) → answers "{\"alg\":\"HS256\",}" k ≡ Refused 7)
+    × ((k : ℕ) → answers "{\"alg\":\"HS256\",\"x\":\"\\uDD1E\"}" k ≡ Refused 7)
+    -- white space between brackets: read, and one reading
+    × (answers "{\"alg\":\"HS256\",\"x\":[ ]}" 0 ≡ Text (place 2 5) (place 8 13)) × (answers "{\"alg\":\"HS256\",\"x\":[ ]}" 1 ≡ Array (place 16 17) (place 19 22))
+    × ((k : ℕ) → answers "{\"alg\":\"HS256\",\"x\":[ ]}" (suc (suc k)) ≡ Refused 16)
+    × ((t u : Derivation) → bytes t ≡ ascii "{\"alg\":\"HS256\",\"x\":[ ]}" → bytes u ≡ ascii "{\"alg\":\"HS256\",\"x\":[ ]}" → readingOf t ≡ readingOf u)
+    -- seven arrays nested as a member's value: read; eight: 7
+    × (answers "{\"x\":[[[[[[[]]]]]]]}" 0 ≡ Array (place 2 3) (place 5 19))
+    × ((k : ℕ) → answers "{\"x\":[[[[[[[[]]]]]]]]}" k ≡ Refused 7)
+unfolding answers
+rows = (refl, λ k. refl, λ k. refl, λ k. refl, λ k. refl, refl, refl, λ k. refl, λ t u p q. one-reading t u (p ∙ sym q), refl, λ k. refl)
+
+-- "Header 1,024 bytes: rule 5 passes it; 1,025: 5."
+module _ (h : List ℕ) where
+  pub length-passes : length h ≤ 1024 → checked h ≡ 5 → ⊥
+  length-passes l e = let k = header-first h 5 refl .0 e .0 in omega arith
+
+  pub length-refused : 1024 < length h → checked h ≡ 5
+  length-refused l = header-first h 5 refl .1 (l, tt)

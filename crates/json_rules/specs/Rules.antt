@@ -1,0 +1,46 @@
+-- The rules of a header: its limits, and answers 5, 7, 8 and 16 by the derivations of its bytes. No parser is mentioned.
+use mathlib.Core.Path.{_≡_}
+use mathlib.Core.List.{List, [], _∷_, _++_}
+use Prim.Native.Nat.{ℕ, suc, _≤_, _<_}
+use lib.ListN.{length}
+use Rattle.common.specs.First.{Rule, _on_}
+use Rattle.json_grammar.specs.Twice.{TwiceNamed}
+use Rattle.json_grammar.specs.Value.{Members, mnil, mcons, objectV}
+use Rattle.json_grammar.specs.Grammar.{Derivation, Derived, bytes, readingOf}
+
+-- Rule 5: a header has at most 1,024 bytes. Rule 7: the top object is depth 1, and no depth exceeds 8.
+abbrev pub longest : ℕ
+longest = 1024
+
+abbrev pub deepest : ℕ
+deepest = 8
+
+-- THE CONDITIONS
+
+-- 8: h is derived, and one object has a name twice
+abbrev pub NameTwice : List ℕ → Type 0
+NameTwice h = (t : Derivation) × (bytes t ≡ h) × TwiceNamed (objectV (readingOf t))
+
+unfoldable pub count : Members → ℕ
+count mnil = 0
+count (mcons n v ms) = suc (count ms)
+
+-- 16: h is derived, and its top object has no member k
+abbrev pub NoMember : List ℕ → ℕ → Type 0
+NoMember h k = (t : Derivation) × (bytes t ≡ h) × (count (readingOf t) ≤ k)
+
+-- the grammar's rules
+abbrev pub grammarRules : ℕ → List ℕ → List Rule
+grammarRules d h =
+    -- "header isn't derived by the grammar, or nests too deep"
+    7 on (Derived d h → ⊥)
+    -- "one object has a name twice"
+    ∷ 8 on NameTwice h
+    ∷ []
+
+-- .. after "header longer than 1,024 bytes"
+abbrev pub headerRules : List ℕ → List Rule
+headerRules h = 5 on (longest < length h) ∷ grammarRules deepest h
+
+abbrev pub memberRules : List ℕ → ℕ → List Rule
+memberRules h k = headerRules h ++ (16 on NoMember h k ∷ [])
