@@ -18,8 +18,9 @@ use Rattle.json_string.specs.declared.End.the-variants.{At, Bad}
 use Rattle.json_string.specs.Ends.{at-byte, left, shorter, fuel, ends-at, ends-bad}
 use Rattle.json_string.specs.Strings.{NameAt, sameText, StringEnds, fingerprintAt}
 use Rattle.json_string.specs.StringLaws.{names-same}
-use Rattle.json_reader.specs.Contracts.{SkipsTo, MembersEnd, readMembers}
-use Rattle.json_reader.specs.EndsLaws.{given, none}
+use Rattle.json_tokens.specs.Tokens.{SkipsTo}
+use Rattle.json_reader.specs.Contracts.{MembersEnd, readMembers}
+use Rattle.json_tokens.specs.EndsLaws.{given, none}
 use Rattle.json_members.specs.declared.steps.Entry.{Entry}
 use Rattle.json_members.specs.Members.{MembersAt, MembersFrom, EntryAt}
 use Rattle.json_members.specs.MemberLaws.{no-members}

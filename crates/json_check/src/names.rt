@@ -1,11 +1,11 @@
 // Names that stand twice in one object. Names are compared pair by pair, after their escapes are resolved; the first equal pair ends the search.
 use json_members::entry_at;
 use json_reader::member_list;
-use json_reader::skip_ws;
 use json_string::End;
 use json_string::fingerprint;
 use json_string::same_by_fingerprint;
 use json_string::string_end;
+use json_tokens::skip_ws;
 ghost use mathlib.Core.Path.{_≡_};
 ghost use Prim.Native.Nat.{_≤_, _<_};
 ghost use lib.ListN.{length};

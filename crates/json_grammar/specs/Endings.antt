@@ -1,24 +1,20 @@
--- What a reader leaves is the end of what it was given; and what it reads, it reads with every fuel that is enough.
+-- What a reader leaves is the end of what it was given.
 use mathlib.Core.Path.{_≡_, refl, sym, ap, _∙_, subst}
-use mathlib.Core.Logic.{⊎-elim}
 use mathlib.Core.List.{List, [], _∷_, _++_, append-assoc}
-use Prim.Native.Nat.{ℕ, zero, suc, _+_, _-_, _≤_, _<_}
+use Prim.Native.Nat.{ℕ, zero, suc, _-_, _≤_, _<_}
 use native.Mathlib.Omega.{arith}
 use lib.ListN.{length, take, drop, length-append, take-append-drop}
 use lib.Seq.{drop-at}
-use Rattle.json_grammar.specs.Bytes.{within, isWs, isDigit, isE}
-use Rattle.json_grammar.specs.Value.{LValue, LItem, LItems, LMember, LMembers, item, named}
+use Rattle.json_grammar.specs.Bytes.{isWs}
+use Rattle.json_grammar.specs.Value.{LValue, LMember, item}
 use Rattle.json_grammar.specs.Places.{pos}
-use Rattle.json_grammar.specs.Grammar.{yieldValue}
-use Rattle.json_grammar.specs.Reader.{Got, bad, got, then, over, expect, ws, placedItem, readChars, readValue, readMoreElements, readMoreMembers}
-use Rattle.json_grammar.specs.ReaderLaws.{no-bad, skipped, readValue-ws}
-use Rattle.json_grammar.specs.Sequences.{Sequence, members, elements, more-inv, MemberRead}
-use Rattle.json_grammar.specs.Levels.{readBare, readMember}
+use Rattle.json_grammar.specs.Reader.{Got, bad, got, ws, placedItem, readChars, readValue}
+use Rattle.json_grammar.specs.ReaderLaws.{no-bad, skipped}
+use Rattle.json_grammar.specs.Sequences.{MemberRead}
+use Rattle.json_grammar.specs.Levels.{readBare}
 use Rattle.json_grammar.specs.Written.{Writes, longer}
 use Rattle.json_grammar.specs.Written
-use Rattle.json_grammar.specs.CharLaws.{complete-chars, chars-sound}
-use Rattle.json_grammar.specs.NumberLaws.{Stops}
-use Rattle.json_grammar.specs.Complete.{stops-white, complete-value}
+use Rattle.json_grammar.specs.CharLaws.{chars-sound}
 use Rattle.json_grammar.specs.Sound.{bare-found}
 
 -- x is the end of s
@@ -49,6 +45,10 @@ ending-byte b x = record { front = b ∷ []; is = refl }
 -- what is left of what a tree yields
 ending-yield : {k : ℕ} {f : List ℕ → List ℕ} {s : List ℕ} (r : List ℕ) → Writes k f → s ≡ f r → Ending s r
 ending-yield r w e = record { front = w .written; is = e ∙ w .is r }
+
+-- .. and a byte of it at least was taken
+pub yield-leaves : {f : List ℕ → List ℕ} {s : List ℕ} (r : List ℕ) → Writes 1 f → s ≡ f r → Ending s r × (length r < length s)
+yield-leaves r w e = (ending-yield r w e, omega (arith, ap length e, longer w r))
 
 pub ending-ws : (x : List ℕ) → Ending x (ws x)
 ending-ws x = let i = skipped isWs x in ending-yield (ws x) (Written.white (i .0)) (i .1)
@@ -91,27 +91,13 @@ value-read (suc n) d x a b v y e =
       leaves = subst (λ (z : List ℕ). Ending x z) (sym (i .2)) (ending-of begins (ending-of ends (ending-ws b)));
     }
 
--- with another fuel, where what follows stops a number
-pub value-again : (n m d : ℕ) (s : List ℕ) (i : LItem) (y : List ℕ) → length s ≤ n → length s ≤ m → Stops y → readValue n d s ≡ got i y → readValue m d s ≡ got i y
-value-again n m d s (item a b v) y l k st e =
-    let r = value-read n d s a b v y e in
-    let t = bare-found (r .below) d a v b (r .reads) in
-    let w = skipped isWs b in
-    let stops : Stops b = subst (λ (z : List ℕ). Stops z) (sym (w .1)) (stops-white (w .0) (ws b) (subst (λ (z : List ℕ). Stops z) (r .past) st)) in
-    let yields : ws s ≡ yieldValue (t .0) b = sym (r .from) ∙ t .1 in
-    let few : length (yieldValue (t .0) b) ≤ length s = omega (arith, ap length yields, shorter-ending (ending-ws s)) in
-    let at-n = complete-value (t .0) n d b (omega arith) (t .2) stops in
-    let at-m = complete-value (t .0) m d b (omega arith) (t .2) stops in
-    sym (readValue-ws m d s) ∙ ap (readValue m d) yields ∙ at-m ∙ sym (sym (readValue-ws n d s) ∙ ap (readValue n d) yields ∙ at-n) ∙ e
-
 -- A MEMBER
 
-chars-again : (n m : ℕ) (s cs r : List ℕ) → length s ≤ n → length s ≤ m → readChars n s ≡ got cs r → readChars m s ≡ got cs r
-chars-again n m s cs r l k e =
+-- past a string's closing quotation mark
+pub chars-leave : (n : ℕ) (s cs r : List ℕ) → readChars n s ≡ got cs r → Ending s r
+chars-leave n s cs r e =
     let c = chars-sound n s cs r e in
-    let at-n = complete-chars (c .0) n r (omega (arith, ap length (c .1))) in
-    let at-m = complete-chars (c .0) m r (omega (arith, ap length (c .1))) in
-    ap (readChars m) (c .1) ∙ at-m ∙ sym (ap (readChars n) (c .1) ∙ at-n) ∙ e
+    ending-of (ending-yield (0x22 ∷ r) (Written.chars (c .0)) (c .1)) (ending-byte 0x22 r)
 
 module _ {n d : ℕ} {s : List ℕ} {m : LMember} {y : List ℕ} (r : MemberRead n d s m y) where
   pub name-ends : Ending s (r .name)
@@ -120,40 +106,5 @@ module _ {n d : ℕ} {s : List ℕ} {m : LMember} {y : List ℕ} (r : MemberRead
   colon-in : Ending (r .closed) (r .colon)
   colon-in = ending-of (ending-ws (r .closed)) (subst (λ (z : List ℕ). Ending z (r .colon)) (sym (r .parts)) (ending-byte 0x3A (r .colon)))
 
-  closed-in : Ending (r .name) (r .closed)
-  closed-in =
-      let c = chars-sound n (r .name) (r .codes) (r .closed) (r .chars) in
-      ending-of (ending-yield (0x22 ∷ r .closed) (Written.chars (c .0)) (c .1)) (ending-byte 0x22 (r .closed))
-
   pub colon-ends : Ending s (r .colon)
-  colon-ends = ending-of name-ends (ending-of closed-in colon-in)
-
-  -- with another fuel
-  pub member-again : (k : ℕ) → length s ≤ n → length s ≤ k → Stops y → readMember k d s ≡ got m y
-  member-again k l h st =
-      let name-le : length (r .name) ≤ length s = shorter-ending name-ends in
-      let colon-le : length (r .colon) ≤ length s = shorter-ending colon-ends in
-      let c = chars-again n k (r .name) (r .codes) (r .closed) (omega arith) (omega arith) (r .chars) in
-      let v = value-again n k d (r .colon) (r .value) y (omega arith) (omega arith) st (r .reads) in
-      ap (readMember k d) (r .opens)
-      ∙ ap (λ (g : Got (List ℕ)). then g (λ cs z. expect 0x3A (ws z) (λ x. over (named (r .name) (0x22 ∷ z) cs) (readValue k d x)))) c
-      ∙ ap (λ (z : List ℕ). expect 0x3A z (λ x. over (named (r .name) (0x22 ∷ r .closed) (r .codes)) (readValue k d x))) (r .parts)
-      ∙ ap (over (named (r .name) (0x22 ∷ r .closed) (r .codes))) v ∙ ap (λ (x : LMember). got x y) (r .is)
-
--- WHAT FOLLOWS an element or a member stops a number
-
-module _ {A B : Type 0} {nothing : A} {cons : B → A → A} {one : ℕ → ℕ → List ℕ → Got B} {inside more : ℕ → ℕ → List ℕ → Got A} {close : ℕ}
-    (q : Sequence nothing cons one inside more close) (shut : (x : List ℕ) → Stops (close ∷ x)) where
-  more-stops : (n d : ℕ) (y : List ℕ) (a : A) (r : List ℕ) → more n d y ≡ got a r → Stops y
-  unfolding isDigit isE within
-  more-stops zero d y a r e = no-bad (sym (q .more-zero d y) ∙ e)
-  more-stops (suc n) d y a r e =
-      ⊎-elim (λ i. subst (λ (z : List ℕ). Stops z) (sym (i .0)) (shut r)) (λ i. subst (λ (z : List ℕ). Stops z) (sym (i .1)) refl) (more-inv q n d y a r e)
-
-pub members-stop : (n d : ℕ) (y : List ℕ) (ms : LMembers) (r : List ℕ) → readMoreMembers n d y ≡ got ms r → Stops y
-unfolding isDigit isE within
-members-stop = more-stops members (λ x. refl)
-
-pub elements-stop : (n d : ℕ) (y : List ℕ) (vs : LItems) (r : List ℕ) → readMoreElements n d y ≡ got vs r → Stops y
-unfolding isDigit isE within
-elements-stop = more-stops elements (λ x. refl)
+  colon-ends = ending-of name-ends (ending-of (chars-leave n (r .name) (r .codes) (r .closed) (r .chars)) colon-in)

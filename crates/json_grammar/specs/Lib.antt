@@ -9,7 +9,7 @@ pub mod Reader
 pub mod Levels
 pub mod Scan
 -- Theorems: what is derived is read (Complete), what is read is derived (Sound), a text has one reading (Unique),
--- what is left is the end of what was given, and fuel that is enough changes nothing (Endings),
+-- what is left is the end of what was given (Endings), and fuel that is enough changes nothing (Fuel),
 -- the bytes at a member's places are its name and value (ShownLaws), the scan finds names twice (ScanLaws).
 pub mod ByteLaws
 pub mod ReaderLaws
@@ -21,6 +21,7 @@ pub mod Readings
 pub mod Complete
 pub mod Sound
 pub mod Endings
+pub mod Fuel
 pub mod Unique
 pub mod ShownLaws
 pub mod ScanLaws

@@ -1,5 +1,5 @@
 -- Steps over members and elements: a law for each way through each function.
-use mathlib.Core.Path.{_≡_, refl, sym, ap, ap₂, _∙_, subst}
+use mathlib.Core.Path.{_≡_, refl, sym, ap, ap₂, _∙_}
 use mathlib.Core.List.{List, _∷_}
 use Prim.Native.Nat.{ℕ, _+_, _-_, _≤_, _<_}
 use native.Mathlib.Omega.{arith}
@@ -8,34 +8,25 @@ use borrow.Author.Tests.{eq-eqb, ne-eqb}
 use Rattle.json_grammar.specs.Value.{LValue, LItem, LMember, item, named, plain}
 use Rattle.json_grammar.specs.Places.{kindOf, margin, pos, Kind as Kinds}
 use Rattle.json_grammar.specs.Reader.{Got, bad, got, then, over, expect, ws, placedItem, readChars, readValue, valueLead}
-use Rattle.json_grammar.specs.ReaderLaws.{expect-inv, expect-over}
+use Rattle.json_grammar.specs.ReaderLaws.{expect-over}
 use Rattle.json_grammar.specs.Levels.{readMember}
 use Rattle.json_grammar.specs.ByteLaws.{by-byte}
-use Rattle.json_grammar.specs.Endings.{value-read}
 use Rattle.json_string.specs.declared.End.{End}
 use Rattle.json_string.specs.declared.End.the-variants.{At, Bad}
-use Rattle.json_string.specs.Ends.{at-byte, ends-at, ends-bad}
+use Rattle.json_string.specs.Ends.{at-byte, pos-drop, ends-at, ends-bad}
 use Rattle.json_string.specs.Strings.{StringEnds}
-use Rattle.json_reader.specs.Contracts.{SkipsTo, BareEnds, Spans, SpanAt, readTrimmed, readAfterName, kindBy}
-use Rattle.json_reader.specs.declared.values.Span.{Span}
+use Rattle.json_tokens.specs.Tokens.{SkipsTo}
+use Rattle.json_reader.specs.Contracts.{bareEnd, valueSpan, readTrimmed, readAfterName, kindBy}
 use Rattle.json_reader.specs.declared.values.Span.the-variants.{Found, Nowhere}
-use Rattle.json_reader.specs.EndsLaws.{given, none, bounds}
-use Rattle.json_reader.specs.ValueLaws.{trimmed-kind, no-trimmed, placed-at}
+use Rattle.json_tokens.specs.EndsLaws.{given, none, bounds}
+use Rattle.json_reader.specs.ValueLaws.{trimmed-kind, placed-at}
+use Rattle.json_reader.specs.ReadLaws.{bare-ends, span-found, span-none}
 use Rattle.json_rules.specs.declared.Place.{Place}
 use Rattle.json_members.specs.declared.places.Kind.{Kind}
 use Rattle.json_members.specs.declared.steps.Item.{Item}
 use Rattle.json_members.specs.declared.steps.Entry.{Entry}
 use Rattle.json_rules.specs.Answers.{place}
 use Rattle.json_members.specs.Steps.{firstIn, topIn, topMembers, firstMember, startIn, nextIn, kindFor, itemBy, noItem, itemIn, itemAt, entryBy, noEntry, entryIn, entryAt}
-
--- a callee's contract at the answer that it gave
-pub span : {s : List ℕ} {q d : ℕ} {x y : Span} → x ≡ y → SpanAt s q d x → SpanAt s q d y
-span {s} {q} {d} e h = subst (λ (z : Span). SpanAt s q d z) e h
-
--- the place of the bytes from i on
-pos-drop : (s : List ℕ) (i : ℕ) → i ≤ length s → pos s (drop i s) ≡ i
-unfolding pos
-pos-drop s i h = rw (length-drop i s) (omega arith)
 
 pos-byte : (s : List ℕ) (i : ℕ) → i < length s → pos s (getD s i 0 ∷ drop (i + 1) s) ≡ i
 pos-byte s i h = ap (pos s) (sym (at-byte s i h)) ∙ pos-drop s i (omega arith)
@@ -132,53 +123,22 @@ module _ {s : List ℕ} {p f : ℕ} (d : ℕ) (w : SkipsTo s p f) where
   unfolding itemAt
   from-first c = ap (itemIn s) (placed-at d w (length s) ∙ ap (placedItem (drop f s)) c)
 
-  pub item-is : {e : ℕ} {r : Item} → f < length s → BareEnds s f d (At e) → r ≡ itemBy s (kindBy (valueLead (getD s f 0))) f e (ws (drop e s)) → r ≡ itemAt s p d
-  item-is {e} h k c =
+  pub item-is : {e : ℕ} {r : Item} → At e ≡ bareEnd s f d → r ≡ itemBy s (kindBy (valueLead (getD s f 0))) f e (ws (drop e s)) → r ≡ itemAt s p d
+  item-is {e} x c =
+      let k = bare-ends d x in
       let b = bounds k in
+      let h : f < length s = omega (arith, b .0, b .1) in
       let g = given k (length s) (omega (arith, length-drop f s)) in
       c ∙ sym (from-first (g .1) ∙ item-of s f e (g .0) (omega (arith, b .0)) (b .1) (trimmed-kind (length s) d (getD s f 0) (drop (f + 1) s) (ap (readTrimmed (length s) d) (sym (at-byte s f h)) ∙ g .1)))
 
-  module _ {r : Item} (c : r ≡ noItem) where
-    pub no-item : BareEnds s f d Bad → r ≡ itemAt s p d
-    unfolding itemIn
-    no-item k = c ∙ sym (from-first (none k (length s) (omega (arith, length-drop f s))))
-
-    pub item-out : length s ≤ f → r ≡ itemAt s p d
-    unfolding itemIn
-    item-out h = c ∙ sym (from-first (ap (readTrimmed (length s) d) (drop-of-length-le s h) ∙ no-trimmed d (length s)))
+  pub no-item : {r : Item} → Bad ≡ bareEnd s f d → r ≡ noItem → r ≡ itemAt s p d
+  unfolding itemIn
+  no-item x c = c ∙ sym (from-first (none (bare-ends d x) (length s) (omega (arith, length-drop f s))))
 
 -- A MEMBER
 
--- a value that is found from f to e
-record Spanned (s : List ℕ) (q f e d n : ℕ) : Type 0 where
-  value : LValue
-  reads : readAfterName n d (drop q s) ≡ got (item (drop f s) (drop e s) value) (ws (drop e s))
-  some : f < e
-  within : e ≤ length s
-  kind : kindOf (plain value) ≡ kindBy (valueLead (getD s f 0))
-
-span-read : {s : List ℕ} {q f e : ℕ} (d n : ℕ) → SpanAt s q d (Found f e) → length (drop q s) ≤ n → Spanned s q f e d n
-span-read {s} {q} {f} {e} d n k h = go (readAfterName n d (drop q s)) refl (k .spans n h)
-  where
-    go : (g : Got LItem) → readAfterName n d (drop q s) ≡ g → Spans s (Found f e) g → Spanned s q f e d n
-    go bad c z = absurd z
-    go (got (item a b v) y) c z =
-        let i = expect-inv 0x3A (ws (drop q s)) (λ r. readValue n d r) (item a b v) y c in
-        let r = value-read n d (i .0) a b v y (i .2) in
-        let y-is : y ≡ ws (drop e s) = r .past ∙ ap ws (z .3) in
-        let z2 = z .2 in
-        let z3 = z .3 in
-        record { value = v; reads = cc; some = z .0; within = z .1; kind = z .4 }
-
-pub span-within : {s : List ℕ} {q f e : ℕ} (d : ℕ) → SpanAt s q d (Found f e) → (f < e) × (e ≤ length s)
-span-within {s} {q} d k = let r = span-read d (length (drop q s)) k (omega arith) in (r .some, r .within)
-
-span-none : {s : List ℕ} {q : ℕ} (d n : ℕ) → SpanAt s q d Nowhere → length (drop q s) ≤ n → readAfterName n d (drop q s) ≡ bad
-span-none {s} {q} d n k h = go (readAfterName n d (drop q s)) (k .spans n h)
-  where
-    go : (g : Got LItem) → Spans s Nowhere g → g ≡ bad
-    go bad z = refl
-    go (got i y) z = absurd z
+pub span-within : (s : List ℕ) (q d : ℕ) {f e : ℕ} → Found f e ≡ valueSpan s q d → (f < e) × (e ≤ length s)
+span-within s q d k = let r = span-found s q d (length (drop q s)) (omega arith) k in (r .some, r .within)
 
 module _ (s : List ℕ) (p d : ℕ) (h : p < length s) where
   -- past the quotation mark
@@ -214,13 +174,13 @@ module _ (s : List ℕ) (p d : ℕ) (h : p < length s) where
       unfolding pos
       name-place = ap₂ place (sym (pos-drop s (p + 1) (omega arith))) (omega (arith, name-end .0, name-end .1, length-drop q s))
 
-      pub entry-is : {f e : ℕ} {i : Item} → SpanAt s q d (Found f e) → i ≡ itemBy s (kindBy (valueLead (getD s f 0))) f e (ws (drop e s))
+      pub entry-is : {f e : ℕ} {i : Item} → Found f e ≡ valueSpan s q d → i ≡ itemBy s (kindBy (valueLead (getD s f 0))) f e (ws (drop e s))
           → _≡_ {A = Entry} (record { name = place (p + 1) (q - 1); value = i .value; kind = i .kind; next = i .next }) (entryAt s p d)
       unfolding entryIn entryBy
       entry-is {f} {e} w c =
-          let r = span-read d (length s) w (omega (arith, length-drop q s)) in
+          let r = span-found s q d (length s) (omega (arith, length-drop q s)) w in
           ap₂ entryBy name-place (c ∙ sym (item-of s f e (r .value) (r .some) (r .within) (r .kind))) ∙ sym (valued (r .reads) .1)
 
-      pub no-value : {r : Entry} → SpanAt s q d Nowhere → r ≡ noEntry → r ≡ entryAt s p d
+      pub no-value : {r : Entry} → Nowhere ≡ valueSpan s q d → r ≡ noEntry → r ≡ entryAt s p d
       unfolding entryIn
-      no-value w c = c ∙ sym (valued (span-none d (length s) w (omega (arith, length-drop q s))) .1)
+      no-value w c = c ∙ sym (valued (span-none s q d (length s) (omega (arith, length-drop q s)) w) .1)

@@ -15,7 +15,8 @@ use Rattle.json_grammar.specs.Reader.{ValueLead, quoteLead, bracketLead, braceL
 use Rattle.json_grammar.specs.ReaderLaws.{no-bad, then-inv, over-inv, read-inv}
 use Rattle.json_grammar.specs.Sequences.{Sequence, listed, members, elements, list-inv, list-out, MemberRead, member-inv}
 use Rattle.json_grammar.specs.Levels.{readBare, readMember}
-use Rattle.json_grammar.specs.Endings.{Ending, shorter-ending, at-ending, ending-of, ending-drop, ending-byte, ending-ws, ValueRead, value-read, value-again, name-ends, colon-ends, member-again, members-stop, elements-stop}
+use Rattle.json_grammar.specs.Endings.{Ending, shorter-ending, at-ending, ending-of, ending-drop, ending-byte, ending-ws, ValueRead, value-read, name-ends, colon-ends}
+use Rattle.json_grammar.specs.Fuel.{value-fuel, member-fuel}
 use Rattle.json_string.specs.declared.End.{End}
 use Rattle.json_string.specs.declared.End.the-variants.{At, Bad}
 use Rattle.json_string.specs.Ends.{at-byte}
@@ -260,7 +261,7 @@ item-at s p d e = subst (λ (z : Item). ItemAt s p d z) (sym e) (record { later 
         let u = element-parts d (item a b v) vs o in
         let whole = ending-drop s p in
         let r = value-read (o .fuel) d (drop p s) a b v (u .0) (u .1) in
-        let c = value-again (o .fuel) (length s) d (drop p s) (item a b v) (u .0) (o .enough) (shorter-ending whole) (elements-stop (o .fuel) d (u .0) vs (o .left) (u .2)) (u .1) in
+        let c = value-fuel (length s) (o .fuel) d (drop p s) (shorter-ending whole) (o .enough) ∙ u .1 in
         subst (λ (g : Got LItem). ValueIs s d (itemIn s g .kind) (itemIn s g .value) a b v × ElementsFrom s d (itemIn s g .next) vs) (sym c) (
           value-is whole (o .fuel) d a b v (u .0) (o .enough) (u .1),
           next-is elements (u .0) (ending-of whole (r .leaves)) (o .fuel) d vs (o .left) (omega (arith, o .enough, shorter-ending (r .leaves))) (u .2),
@@ -269,13 +270,14 @@ item-at s p d e = subst (λ (z : Item). ItemAt s p d z) (sym e) (record { later 
 -- MEMBERS
 
 member-parts : {s : List ℕ} {p : ℕ} (d : ℕ) (m : LMember) (ms : LMembers) (o : MembersAt s p d (lcons m ms))
-    → (y : List ℕ) × MemberRead (o .fuel) d (drop p s) m y × (readMoreMembers (o .fuel) d y ≡ got ms (o .left))
+    → (y : List ℕ) × MemberRead (o .fuel) d (drop p s) m y × (readMember (o .fuel) d (drop p s) ≡ got m y) × (readMoreMembers (o .fuel) d y ≡ got ms (o .left))
 member-parts {s} {p} d m ms o =
     let a = list-inv members (o .fuel) d (drop p s) (lcons m ms) (o .left) (o .reads) in
     let c = a .5 in
     let x : a .0 ≡ m = cc in
     let z : a .2 ≡ ms = cc in
-    (a .1, member-inv (o .fuel) d (drop p s) m (a .1) (a .3 ∙ ap (λ (v : LMember). got v (a .1)) x), a .4 ∙ ap (λ (v : LMembers). got v (o .left)) z)
+    let e : readMember (o .fuel) d (drop p s) ≡ got m (a .1) = a .3 ∙ ap (λ (v : LMember). got v (a .1)) x in
+    (a .1, member-inv (o .fuel) d (drop p s) m (a .1) e, e, a .4 ∙ ap (λ (v : LMembers). got v (o .left)) z)
 
 -- what a reading of the member m says of its name and its value
 member-named : {n d : ℕ} {s : List ℕ} {f t cs : List ℕ} {i : LItem} {y : List ℕ} (r : MemberRead n d s (named f t cs i) y)
@@ -325,11 +327,11 @@ entry-at s p d e = subst (λ (z : Entry). EntryAt s p d z) (sym e) (record { lat
         let whole = ending-drop s p in
         let colon = ending-of whole (colon-ends m) in
         let few : length (m .colon) ≤ o .fuel = omega (arith, o .enough, shorter-ending (colon-ends m)) in
-        let c = member-again m (length s) (o .enough) (shorter-ending whole) (members-stop (o .fuel) d (u .0) ms (o .left) (u .2)) in
+        let c = member-fuel (length s) (o .fuel) d (drop p s) (shorter-ending whole) (o .enough) ∙ u .2 in
         subst
         (λ (g : Got LMember). NameIs s (entryIn s g .name) n t cs × ValueIs s d (entryIn s g .kind) (entryIn s g .value) a b v × MembersFrom s d (entryIn s g .next) ms)
         (sym c) (
           name-is d n t cs (item a b v) ms o,
           value-is colon (o .fuel) d a b v (u .0) few reads,
-          next-is members (u .0) (ending-of colon (r .leaves)) (o .fuel) d ms (o .left) (omega (arith, shorter-ending (r .leaves))) (u .2),
+          next-is members (u .0) (ending-of colon (r .leaves)) (o .fuel) d ms (o .left) (omega (arith, shorter-ending (r .leaves))) (u .3),
         )

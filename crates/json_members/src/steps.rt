@@ -4,11 +4,11 @@ use crate::places::kind_by;
 use crate::places::place_by;
 use json_reader::Span;
 use json_reader::bare;
-use json_reader::skip_ws;
 use json_reader::value_span;
 use json_rules::Place;
 use json_string::End;
 use json_string::string_end;
+use json_tokens::skip_ws;
 ghost use mathlib.Core.Path.{_≡_};
 ghost use Prim.Native.Nat.{_+_, _≤_, _<_};
 ghost use lib.ListN.{length, drop, getD};
@@ -78,7 +78,6 @@ fn inside(s: &[u8], before: usize, close: u8) -> End
 
 // What follows the comma after a value that ends at e, if there is one.
 fn after_comma(s: &[u8], e: usize) -> End
-    requires { ⌜ e ≤ length (now s) ⌝ }
     ensures { λ r. ⌜ r ≡ nextIn (now (s .entry)) (ws (drop e (now (s .entry)))) ⌝ }
 {
     let at = skip_ws(s, e);
@@ -131,21 +130,13 @@ fn no_entry() -> Entry
 // The element at p.
 // Rules out a string's place that has its quotation mark, the kind of another value, and a place where no element is read.
 pub fn item_at(s: &[u8], p: usize, depth: usize) -> Item
-    requires { ⌜ p ≤ length (now s) ⌝ }
     ensures { λ r. ⌜ r ≡ itemAt (now (s .entry)) p depth ⌝ }
 {
     let f = skip_ws(s, p);
-    if f < s.len() {
-        match bare(s, f, depth) {
-            End::At(e) => {
-                return spanned(s, f, e);
-            }
-            End::Bad => {
-                return no_item();
-            }
-        }
+    match bare(s, f, depth) {
+        End::At(e) => spanned(s, f, e),
+        End::Bad => no_item(),
     }
-    no_item()
 }
 
 // The member at p.

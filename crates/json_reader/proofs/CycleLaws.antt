@@ -15,10 +15,13 @@ use Rattle.json_string.specs.declared.End.the-variants.{At, Bad}
 use Rattle.json_string.specs.Ends.{by, shorter}
 use Rattle.json_string.specs.Strings.{stringEnd, StringEnds}
 use Rattle.json_string.specs.StringLaws as string
-use Rattle.json_reader.specs.Contracts.{EndsBy, SkipsTo, WordEnds, NumberEnds, ValueEnds, BareEnds, ArrayEnds, ElementsEnd, ObjectEnds, MembersEnd, MemberEnds, AfterName}
-use Rattle.json_reader.specs.Contracts.{readTrimmed}
+use Rattle.json_tokens.specs.Tokens.{EndsBy, SkipsTo, wordEnd, numberEnd}
+use Rattle.json_tokens.specs.TokenLaws.{number-ends, word-ends}
+use Rattle.json_reader.specs.Contracts.{ValueEnds, BareEnds, ArrayEnds, ElementsEnd, ObjectEnds, MembersEnd, MemberEnds, AfterName}
+use Rattle.json_reader.specs.Contracts.{readTrimmed, bareEnd}
+use Rattle.json_reader.specs.ReadLaws.{bare-ends}
 use Rattle.json_reader.specs.ValueLaws.{no-trimmed, placed-at}
-use Rattle.json_reader.specs.EndsLaws.{given, none, bounds, earlier, same, wrong, out, first, first-below, first-same, first-only, first-bad, bind, bind-bad, map, renamed, moved, deepened}
+use Rattle.json_tokens.specs.EndsLaws.{given, none, bounds, earlier, same, wrong, out, first, first-below, first-same, first-only, first-bad, bind, bind-bad, map, renamed, moved, deepened}
 
 -- SEQUENCES, of elements and of members: one or more with commas between them, and the closing byte
 
@@ -118,6 +121,9 @@ lead-number : (b : ℕ) → (b ≡ 0x22 → ⊥) → (b ≡ 0x5B → ⊥) → (b
 unfolding valueLead
 lead-number b h1 h2 h3 h4 h5 h6 = rw (ne-eqb b 0x22 h1, ne-eqb b 0x5B h2, ne-eqb b 0x7B h3, ne-eqb b 0x74 h4, ne-eqb b 0x66 h5, ne-eqb b 0x6E h6)
 
+pub bare-out : {s : List ℕ} {at : ℕ} (d : ℕ) → length s ≤ at → BareEnds s at d Bad
+bare-out d h = out h (no-trimmed d)
+
 module _ {s : List ℕ} {at : ℕ} {r : End} (d : ℕ) (h : at < length s) where
   pub bare-string : getD s at 0 ≡ 0x22 → r ≡ stringEnd s (at + 1) → BareEnds s at d r
   unfolding readTrimmed valueLead
@@ -131,35 +137,34 @@ module _ {s : List ℕ} {at : ℕ} {r : End} (d : ℕ) (h : at < length s) where
   unfolding readTrimmed valueLead
   bare-object b k = first-below h (omega arith) (λ n. rw b) (map (λ _ _. objectL) k)
 
-  pub bare-true : getD s at 0 ≡ 0x74 → WordEnds (0x72 ∷ 0x75 ∷ 0x65 ∷ []) s (at + 1) r → BareEnds s at d r
+  pub bare-true : getD s at 0 ≡ 0x74 → r ≡ wordEnd (0x72 ∷ 0x75 ∷ 0x65 ∷ []) s (at + 1) → BareEnds s at d r
   unfolding readTrimmed valueLead
-  bare-true b k = first-below h (omega arith) (λ n. rw b) (map (λ _ _ _. trueL) k)
+  bare-true b k = first-below h (omega arith) (λ n. rw b) (map (λ _ _ _. trueL) (word-ends _ (omega arith) k))
 
-  pub bare-false : getD s at 0 ≡ 0x66 → WordEnds (0x61 ∷ 0x6C ∷ 0x73 ∷ 0x65 ∷ []) s (at + 1) r → BareEnds s at d r
+  pub bare-false : getD s at 0 ≡ 0x66 → r ≡ wordEnd (0x61 ∷ 0x6C ∷ 0x73 ∷ 0x65 ∷ []) s (at + 1) → BareEnds s at d r
   unfolding readTrimmed valueLead
-  bare-false b k = first-below h (omega arith) (λ n. rw b) (map (λ _ _ _. falseL) k)
+  bare-false b k = first-below h (omega arith) (λ n. rw b) (map (λ _ _ _. falseL) (word-ends _ (omega arith) k))
 
-  pub bare-null : getD s at 0 ≡ 0x6E → WordEnds (0x75 ∷ 0x6C ∷ 0x6C ∷ []) s (at + 1) r → BareEnds s at d r
+  pub bare-null : getD s at 0 ≡ 0x6E → r ≡ wordEnd (0x75 ∷ 0x6C ∷ 0x6C ∷ []) s (at + 1) → BareEnds s at d r
   unfolding readTrimmed valueLead
-  bare-null b k = first-below h (omega arith) (λ n. rw b) (map (λ _ _ _. nullL) k)
+  bare-null b k = first-below h (omega arith) (λ n. rw b) (map (λ _ _ _. nullL) (word-ends _ (omega arith) k))
 
   pub bare-number : (getD s at 0 ≡ 0x22 → ⊥) → (getD s at 0 ≡ 0x5B → ⊥) → (getD s at 0 ≡ 0x7B → ⊥) → (getD s at 0 ≡ 0x74 → ⊥) → (getD s at 0 ≡ 0x66 → ⊥) → (getD s at 0 ≡ 0x6E → ⊥)
-      → NumberEnds s at r → BareEnds s at d r
+      → r ≡ numberEnd s at → BareEnds s at d r
   unfolding readTrimmed
-  bare-number h1 h2 h3 h4 h5 h6 k = first-same h (omega arith) (λ n. rw (lead-number (getD s at 0) h1 h2 h3 h4 h5 h6)) (map (λ _ _. numberL) (renamed r (λ x a y. upTo x y) (omega arith) k))
+  bare-number h1 h2 h3 h4 h5 h6 k = first-same h (omega arith) (λ n. rw (lead-number (getD s at 0) h1 h2 h3 h4 h5 h6)) (map (λ _ _. numberL) (renamed r (λ x a y. upTo x y) (omega arith) (number-ends k)))
 
 -- A VALUE BETWEEN WHITE SPACE
 
 module _ {s : List ℕ} {from at : ℕ} (d : ℕ) (k : SkipsTo s from at) where
-  pub value-is : {e j : ℕ} → BareEnds s at d (At e) → SkipsTo s e j → ValueEnds s from d (At j)
-  value-is {e} {j} b w = record {
-    ends = λ n i.
-        let g = given b n (shorter s from at n (k .low) i) in
-        by s from (At j) _ (got (item (drop at s) (drop e s) (g .0)) (drop j s)) (placed-at d k n ∙ rw (g .1, w .is)) (omega (arith, k .low, bounds b .0, w .low), w .high, refl);
-  }
+  pub value-is : {e j : ℕ} → At e ≡ bareEnd s at d → SkipsTo s e j → ValueEnds s from d (At j)
+  value-is {e} {j} r w =
+      let b = bare-ends d r in
+      record {
+        ends = λ n i.
+            let g = given b n (shorter s from at n (k .low) i) in
+            by s from (At j) _ (got (item (drop at s) (drop e s) (g .0)) (drop j s)) (placed-at d k n ∙ rw (g .1, w .is)) (omega (arith, k .low, bounds b .0, w .low), w .high (bounds b .1), refl);
+      }
 
-  pub value-bad : BareEnds s at d Bad → ValueEnds s from d Bad
-  value-bad b = record { ends = λ n i. by s from Bad _ bad (placed-at d k n ∙ rw (none b n (shorter s from at n (k .low) i))) tt }
-
-  pub value-out : length s ≤ at → ValueEnds s from d Bad
-  value-out h = value-bad (out h (no-trimmed d))
+  pub value-bad : Bad ≡ bareEnd s at d → ValueEnds s from d Bad
+  value-bad r = record { ends = λ n i. by s from Bad _ bad (placed-at d k n ∙ rw (none (bare-ends d r) n (shorter s from at n (k .low) i))) tt }

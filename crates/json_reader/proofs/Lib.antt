@@ -1,5 +1,3 @@
 -- Laws for the code's proofs.
-pub mod SkipLaws
-pub mod NumberLaws
 pub mod CycleLaws
 pub mod TextLaws

@@ -1,5 +1,5 @@
 -- The place of a member's value, and the whole text: a law for each way through each function.
-use mathlib.Core.Path.{_≡_, refl, sym, ap, _∙_, subst}
+use mathlib.Core.Path.{_≡_, refl, sym, ap, ap₂, _∙_}
 use mathlib.Core.Bool.{Bool, true, false}
 use mathlib.Core.List.{List}
 use Prim.Native.Nat.{ℕ, _≤_, _<_, _+_}
@@ -7,32 +7,34 @@ use native.Mathlib.Omega.{arith}
 use lib.Dec.{eqb}
 use lib.ListN.{length, drop, getD, drop-of-length-le}
 use borrow.Author.Tests.{eqb-true, eqb-false, ne-eqb}
-use Rattle.json_grammar.specs.Value.{LItem, LMembers, item}
+use Rattle.json_grammar.specs.Value.{LMembers, item}
 use Rattle.json_grammar.specs.Reader.{Got, got, then, expect, ws, placedItem, ends-by}
 use Rattle.json_grammar.specs.Reader.{readObject, read}
 use Rattle.json_grammar.specs.Unique.{isGot}
 use Rattle.json_string.specs.declared.End.{End}
 use Rattle.json_string.specs.declared.End.the-variants.{At, Bad}
 use Rattle.json_reader.specs.declared.values.Span.the-variants.{Found, Nowhere}
-use Rattle.json_string.specs.Ends.{at-byte, shorter}
-use Rattle.json_reader.specs.Contracts.{EndsBy, SkipsTo, BareEnds, ObjectEnds, AfterName, readTrimmed, readAfterName, Spans, SpanAt, isText}
-use Rattle.json_reader.specs.EndsLaws.{given, none, bounds, done, out, first, first-bad, bind, bind-bad, moved}
-use Rattle.json_reader.specs.ValueLaws.{trimmed-kind, placed-at}
+use Rattle.json_string.specs.Ends.{at-byte, pos-drop, shorter}
+use Rattle.json_tokens.specs.Tokens.{EndsBy, SkipsTo}
+use Rattle.json_reader.specs.Contracts.{ObjectEnds, AfterName, readAfterName, bareEnd, spanOf, valueSpan, isText}
+use Rattle.json_tokens.specs.EndsLaws.{given, none, bounds, done, out, first, first-bad, bind, bind-bad, moved}
+use Rattle.json_reader.specs.ValueLaws.{placed-at}
+use Rattle.json_reader.specs.ReadLaws.{bare-ends}
 
 -- THE PLACE OF A MEMBER'S VALUE
 
-pub span-is : {s : List ℕ} {q c f e : ℕ} (d : ℕ) → SkipsTo s q c → c < length s → getD s c 0 ≡ 0x3A → SkipsTo s (c + 1) f → f < length s → BareEnds s f d (At e) → SpanAt s q d (Found f e)
-span-is {s} {q} {c} {f} {e} d k h b w j r = record {
-  spans = λ n l.
-      let g = given r n (shorter s q f n (omega (arith, k .low, w .low)) l) in
-      let o = bounds r in
-      let is : readAfterName n d (drop q s) ≡ got (item (drop f s) (drop e s) (g .0)) (ws (drop e s)) = rw (k .is, at-byte s c h, b) (placed-at d w n ∙ ap (placedItem (drop f s)) (g .1)) in
-      subst (λ (x : Got LItem). Spans s (Found f e) x) (sym is)
-      (omega (arith, o .0), o .1, refl, refl, trimmed-kind n d (getD s f 0) (drop (f + 1) s) (ap (readTrimmed n d) (sym (at-byte s f j)) ∙ g .1));
-}
+pub span-is : {s : List ℕ} {q c f e : ℕ} (d : ℕ) → SkipsTo s q c → c < length s → getD s c 0 ≡ 0x3A → SkipsTo s (c + 1) f → At e ≡ bareEnd s f d → Found f e ≡ valueSpan s q d
+unfolding valueSpan
+span-is {s} {q} {c} {f} {e} d k h b w r =
+    let n = length (drop q s) in
+    let o = bare-ends d r in
+    let g = given o n (shorter s q f n (omega (arith, k .low, w .low)) (omega arith)) in
+    let is : readAfterName n d (drop q s) ≡ got (item (drop f s) (drop e s) (g .0)) (ws (drop e s)) = rw (k .is, at-byte s c h, b) (placed-at d w n ∙ ap (placedItem (drop f s)) (g .1)) in
+    ap₂ Found (sym (pos-drop s f (omega (arith, bounds o .0, bounds o .1)))) (sym (pos-drop s e (bounds o .1))) ∙ ap (spanOf s) (sym is)
 
-pub span-none : {s : List ℕ} {q : ℕ} (d : ℕ) → AfterName s q d Bad → SpanAt s q d Nowhere
-span-none {s} {q} d h = record { spans = λ n l. subst (λ (x : Got LItem). Spans s Nowhere x) (sym (none h n l)) tt }
+pub span-none : {s : List ℕ} {q : ℕ} (d : ℕ) → AfterName s q d Bad → Nowhere ≡ valueSpan s q d
+unfolding valueSpan
+span-none {s} {q} d h = ap (spanOf s) (sym (none h (length (drop q s)) (omega arith)))
 
 -- THE WHOLE TEXT
 
@@ -63,9 +65,9 @@ module _ {s : List ℕ} (d : ℕ) where
         by-end : (t : Bool) → eqb j (length s) ≡ t → t ≡ isText d s
         by-end true q =
             let i : length s ≤ j = omega (arith, eqb-true j (length s) q) in
-            text-ends (past (λ ms. done ms (w .low) (w .high) (λ n. rw (drop-of-length-le s i))))
+            text-ends (past (λ ms. done ms (w .low) (w .high (bounds o .1)) (λ n. rw (drop-of-length-le s i))))
         by-end false q =
-            let i : j < length s = omega (arith, eqb-false j (length s) q, w .high) in
+            let i : j < length s = omega (arith, eqb-false j (length s) q, w .high (bounds o .1)) in
             text-bad (past (λ ms. first-bad i (omega (arith, w .low)) (λ n. refl)))
 
     pub text-object-bad : at < length s → getD s at 0 ≡ 0x7B → ObjectEnds s (at + 1) d Bad → false ≡ isText d s

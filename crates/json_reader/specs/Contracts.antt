@@ -5,8 +5,8 @@ use mathlib.Core.List.{List}
 use Prim.Native.Nat.{ℕ, zero, suc, _≤_, _<_, _+_}
 use lib.ListN.{length, drop, getD}
 use Rattle.json_grammar.specs.Value.{LValue, LItem, LItems, item, plain}
-use Rattle.json_grammar.specs.Places.{Kind, stringK, numberK, trueK, falseK, nullK, arrayK, objectK, kindOf}
-use Rattle.json_grammar.specs.Reader.{Got, bad, got, expect, ws, pastDigits, pastInt, pastFrac, pastExp, pastUnsigned, pastNumber, word}
+use Rattle.json_grammar.specs.Places.{Kind, stringK, numberK, trueK, falseK, nullK, arrayK, objectK, kindOf, pos}
+use Rattle.json_grammar.specs.Reader.{Got, bad, got, expect, ws}
 use Rattle.json_grammar.specs.Reader.{ValueLead, quoteLead, bracketLead, braceLead, trueLead, falseLead, nullLead, numberLead, valueLead}
 use Rattle.json_grammar.specs.Reader.{deeper, readValue, readObject, read}
 use Rattle.json_grammar.specs.Levels.{readBare, readInArray}
@@ -15,43 +15,8 @@ use Rattle.json_grammar.specs.Unique.{isGot}
 use Rattle.json_string.specs.declared.End.{End}
 use Rattle.json_reader.specs.declared.values.Span.{Span}
 use Rattle.json_reader.specs.declared.values.Span.the-variants.{Found, Nowhere}
-use Rattle.json_string.specs.Ends.{Ends}
-
--- e is the place past what `past` passes over at `from`
-pub record MovesTo (past : List ℕ → List ℕ) (s : List ℕ) (from e : ℕ) : Type 0 where
-  pub low : from ≤ e
-  pub high : e ≤ length s
-  pub is : past (drop from s) ≡ drop e s
-
-abbrev pub SkipsTo : List ℕ → ℕ → ℕ → Type 0
-SkipsTo s from e = MovesTo ws s from e
-
--- r is where a reader that starts at `at` ends, not before `least`, for every fuel that is enough
-pub record EndsBy {A : Type 0} (reader : ℕ → List ℕ → Got A) (s : List ℕ) (at least : ℕ) (r : End) : Type 0 where
-  pub ends : (n : ℕ) → length (drop at s) ≤ n → Ends s least r (reader n (drop at s))
-
--- NUMBERS AND WORDS, which need no fuel
-
-abbrev pub DigitsEnd : List ℕ → ℕ → End → Type 0
-DigitsEnd s at r = EndsBy (λ _ x. pastDigits x) s at (at + 1) r
-
-abbrev pub IntEnds : List ℕ → ℕ → End → Type 0
-IntEnds s at r = EndsBy (λ _ x. pastInt x) s at (at + 1) r
-
-abbrev pub FracEnds : List ℕ → ℕ → End → Type 0
-FracEnds s at r = EndsBy (λ _ x. pastFrac x) s at at r
-
-abbrev pub ExpEnds : List ℕ → ℕ → End → Type 0
-ExpEnds s at r = EndsBy (λ _ x. pastExp x) s at at r
-
-abbrev pub UnsignedEnds : List ℕ → ℕ → End → Type 0
-UnsignedEnds s at r = EndsBy (λ _ x. pastUnsigned x) s at (at + 1) r
-
-abbrev pub NumberEnds : List ℕ → ℕ → End → Type 0
-NumberEnds s at r = EndsBy (λ _ x. pastNumber x) s at (at + 1) r
-
-abbrev pub WordEnds : List ℕ → List ℕ → ℕ → End → Type 0
-WordEnds w s at r = EndsBy (λ _ x. word w x) s at at r
+use Rattle.json_string.specs.Ends.{endOf}
+use Rattle.json_tokens.specs.Tokens.{EndsBy}
 
 -- VALUES, with the depth left d
 
@@ -74,6 +39,10 @@ ValueEnds s from d r = EndsBy (λ n x. readValue n d x) s from from r
 abbrev pub BareEnds : List ℕ → ℕ → ℕ → End → Type 0
 BareEnds s at d r = EndsBy (λ n x. readTrimmed n d x) s at (at + 1) r
 
+-- that end; the bytes left are fuel enough
+unfoldable pub bareEnd : List ℕ → ℕ → ℕ → End
+bareEnd s at d = endOf s (readTrimmed (length (drop at s)) d (drop at s))
+
 abbrev pub ArrayEnds : List ℕ → ℕ → ℕ → End → Type 0
 ArrayEnds s from d r = EndsBy (λ n x. readArray n d x) s from from r
 
@@ -85,6 +54,9 @@ ObjectEnds s from d r = EndsBy (λ n x. readObject n d x) s from from r
 
 abbrev pub MembersEnd : List ℕ → ℕ → ℕ → End → Type 0
 MembersEnd s from d r = EndsBy (λ n x. readMembers n d x) s from from r
+
+unfoldable pub memberListEnd : List ℕ → ℕ → ℕ → End
+memberListEnd s from d = endOf s (readMembers (length (drop from s)) d (drop from s))
 
 abbrev pub MemberEnds : List ℕ → ℕ → ℕ → End → Type 0
 MemberEnds s from d r = EndsBy (λ n x. readMember n d x) s from from r
@@ -104,16 +76,22 @@ kindBy falseLead = falseK
 kindBy nullLead = nullK
 kindBy numberLead = numberK
 
--- r is the place of the value that a reader gives, from its first byte to the place after its last, and its first byte tells its kind
-abbrev pub Spans : List ℕ → Span → Got LItem → Type 0
-Spans s (Found f e) (got (item a b v) y) = (f < e) × (e ≤ length s) × (a ≡ drop f s) × (b ≡ drop e s) × (kindOf (plain v) ≡ kindBy (valueLead (getD s f 0)))
-Spans s (Found f e) bad = ⊥
-Spans s Nowhere (got i y) = ⊥
-Spans s Nowhere bad = Unit {0}
+-- the place of the value that a reader gives, from its first byte to the place after its last
+abbrev pub spanOf : List ℕ → Got LItem → Span
+spanOf s (got (item a b v) y) = Found (pos s a) (pos s b)
+spanOf s bad = Nowhere
 
 -- of the value after a name whose closing quotation mark is before q
-pub record SpanAt (s : List ℕ) (q d : ℕ) (r : Span) : Type 0 where
-  pub spans : (n : ℕ) → length (drop q s) ≤ n → Spans s r (readAfterName n d (drop q s))
+unfoldable pub valueSpan : List ℕ → ℕ → ℕ → Span
+valueSpan s q d = spanOf s (readAfterName (length (drop q s)) d (drop q s))
+
+-- what is read there, with fuel n, of a value that stands from f to e: its first byte tells its kind
+pub record Spanned (s : List ℕ) (q f e d n : ℕ) : Type 0 where
+  pub value : LValue
+  pub reads : readAfterName n d (drop q s) ≡ got (item (drop f s) (drop e s) value) (ws (drop e s))
+  pub some : f < e
+  pub within : e ≤ length s
+  pub kind : kindOf (plain value) ≡ kindBy (valueLead (getD s f 0))
 
 -- THE WHOLE TEXT
 

@@ -9,7 +9,8 @@ use Rattle.json_grammar.specs.Places.{kindOf}
 use Rattle.json_grammar.specs.Reader.{Got, bad, got, over, ws, word, placedItem, readChars, readNumber}
 use Rattle.json_grammar.specs.Reader.{ValueLead, quoteLead, bracketLead, braceLead, trueLead, falseLead, nullLead, numberLead, valueLead}
 use Rattle.json_grammar.specs.Reader.{value-by, readValue, readMoreElements, readMoreMembers, readObject}
-use Rattle.json_reader.specs.Contracts.{SkipsTo, readTrimmed, readArray, kindBy}
+use Rattle.json_tokens.specs.Tokens.{SkipsTo}
+use Rattle.json_reader.specs.Contracts.{readTrimmed, readArray, kindBy}
 
 -- THE KIND OF A VALUE, by its first byte
 

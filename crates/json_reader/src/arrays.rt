@@ -1,15 +1,12 @@
 // Arrays (RFC 8259 section 5).
-use crate::spaces::skip_ws;
 use crate::values::value;
 use json_string::End;
-ghost use Prim.Native.Nat.{_≤_};
-ghost use lib.ListN.{length};
+use json_tokens::skip_ws;
 ghost use Rattle.json_reader.specs.Contracts.{ArrayEnds, ElementsEnd};
 
 // What follows an opening bracket, up to the closing one.
 // Rules out a bracket that counts for no level, and an array that a brace closes.
 pub(crate) fn array(s: &[u8], from: usize, depth: usize) -> End
-    requires { ⌜ from ≤ length (now s) ⌝ }
     ensures { λ r. ⌜ ArrayEnds (now (s .entry)) from depth r ⌝ }
 {
     if depth == 0 {
@@ -28,7 +25,6 @@ pub(crate) fn array(s: &[u8], from: usize, depth: usize) -> End
 // One element or more, and the closing bracket.
 // Rules out a comma before the closing bracket, and elements with no comma between them.
 pub(crate) fn elements(s: &[u8], from: usize, depth: usize) -> End
-    requires { ⌜ from ≤ length (now s) ⌝ }
     ensures { λ r. ⌜ ElementsEnd (now (s .entry)) from depth r ⌝ }
 {
     let mut at = from;

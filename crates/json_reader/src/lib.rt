@@ -1,15 +1,11 @@
-// Readers of a JSON text, by place: white space, numbers, words, values, and the whole text (RFC 8259 with the house rules).
+// Readers of a JSON text, by place: arrays, objects, values, and the whole text (RFC 8259 with the house rules).
 // Each answers where what it reads ends, or that it isn't there. They are over the reader on lists of json_grammar.
-mod spaces; // spaces.rt: white space
-mod numbers; // numbers.rt: numbers
-mod words; // words.rt: true, false, null
 mod arrays; // arrays.rt: arrays
 mod objects; // objects.rt: objects
 mod values; // values.rt: values, and the place of a member's value
 mod texts; // texts.rt: the whole text
 
 pub use objects::member_list;
-pub use spaces::skip_ws;
 pub use texts::text;
 pub use values::Span;
 pub use values::bare;

@@ -1,16 +1,14 @@
 // Objects (RFC 8259 section 4).
-use crate::spaces::skip_ws;
 use crate::values::value;
 use json_string::End;
 use json_string::string_end;
-ghost use Prim.Native.Nat.{_≤_};
-ghost use lib.ListN.{length};
-ghost use Rattle.json_reader.specs.Contracts.{ObjectEnds, MembersEnd, MemberEnds, AfterName};
+use json_tokens::skip_ws;
+ghost use mathlib.Core.Path.{_≡_};
+ghost use Rattle.json_reader.specs.Contracts.{ObjectEnds, memberListEnd, MemberEnds, AfterName};
 
 // What follows an opening brace, up to the closing one.
 // Rules out a brace that counts for no level, and an empty object at depth 0.
 pub(crate) fn object(s: &[u8], from: usize, depth: usize) -> End
-    requires { ⌜ from ≤ length (now s) ⌝ }
     ensures { λ r. ⌜ ObjectEnds (now (s .entry)) from depth r ⌝ }
 {
     if depth == 0 {
@@ -29,8 +27,7 @@ pub(crate) fn object(s: &[u8], from: usize, depth: usize) -> End
 // One member or more, and the closing brace.
 // Rules out a comma before the closing brace, and members with no comma between them.
 pub fn member_list(s: &[u8], from: usize, depth: usize) -> End
-    requires { ⌜ from ≤ length (now s) ⌝ }
-    ensures { λ r. ⌜ MembersEnd (now (s .entry)) from depth r ⌝ }
+    ensures { λ r. ⌜ r ≡ memberListEnd (now (s .entry)) from depth ⌝ }
 {
     let mut at = from;
     loop {
@@ -54,7 +51,6 @@ pub fn member_list(s: &[u8], from: usize, depth: usize) -> End
 // A member: a string, a colon and a value, with the white space after it.
 // Rules out a name that is no string, and a member that is missing after a comma.
 pub(crate) fn member(s: &[u8], from: usize, depth: usize) -> End
-    requires { ⌜ from ≤ length (now s) ⌝ }
     ensures { λ r. ⌜ MemberEnds (now (s .entry)) from depth r ⌝ }
 {
     if from >= s.len() {
@@ -72,7 +68,6 @@ pub(crate) fn member(s: &[u8], from: usize, depth: usize) -> End
 // What follows a name: a colon and a value.
 // Rules out a comma in the place of the colon, and a name with no value.
 pub(crate) fn after_name(s: &[u8], from: usize, depth: usize) -> End
-    requires { ⌜ from ≤ length (now s) ⌝ }
     ensures { λ r. ⌜ AfterName (now (s .entry)) from depth r ⌝ }
 {
     let at = skip_ws(s, from);

@@ -1,7 +1,7 @@
 // The whole text: white space, an object, white space (RFC 8259 section 2; the house rule wants an object).
 use crate::objects::object;
-use crate::spaces::skip_ws;
 use json_string::End;
+use json_tokens::skip_ws;
 ghost use mathlib.Core.Path.{_≡_};
 ghost use Rattle.json_reader.specs.Contracts.{isText};
 

@@ -1,26 +1,21 @@
 // Values (RFC 8259 section 3). The readers of values, arrays and objects call one another: the depth left falls at each bracket
 // and brace, and the bytes left fall at each byte that is read.
 use crate::arrays::array;
-use crate::numbers::number_end;
 use crate::objects::object;
-use crate::spaces::skip_ws;
-use crate::words::word_end;
 use json_string::End;
 use json_string::string_end;
-ghost use Prim.Native.Nat.{_≤_, _<_};
-ghost use lib.ListN.{length};
-ghost use Rattle.json_reader.specs.Contracts.{ValueEnds, BareEnds, SpanAt};
+use json_tokens::number_end;
+use json_tokens::skip_ws;
+use json_tokens::word_end;
+ghost use mathlib.Core.Path.{_≡_};
+ghost use Rattle.json_reader.specs.Contracts.{ValueEnds, bareEnd, valueSpan};
 
 // A value, with white space before and after it.
 // Rules out an answer before the white space after the value, and a value that is deeper than `depth`.
 pub(crate) fn value(s: &[u8], from: usize, depth: usize) -> End
-    requires { ⌜ from ≤ length (now s) ⌝ }
     ensures { λ r. ⌜ ValueEnds (now (s .entry)) from depth r ⌝ }
 {
     let at = skip_ws(s, from);
-    if at >= s.len() {
-        return End::Bad;
-    }
     match bare(s, at, depth) {
         End::At(e) => End::At(skip_ws(s, e)),
         End::Bad => End::Bad,
@@ -30,9 +25,11 @@ pub(crate) fn value(s: &[u8], from: usize, depth: usize) -> End
 // A value from its first byte on, without the white space after it.
 // Rules out a word that is cut short, and an array that is deeper than `depth`.
 pub fn bare(s: &[u8], at: usize, depth: usize) -> End
-    requires { ⌜ at < length (now s) ⌝ }
-    ensures { λ r. ⌜ BareEnds (now (s .entry)) at depth r ⌝ }
+    ensures { λ r. ⌜ r ≡ bareEnd (now (s .entry)) at depth ⌝ }
 {
+    if at >= s.len() {
+        return End::Bad;
+    }
     let b = s[at];
     if b == 0x22 {
         return string_end(s, at + 1);
@@ -64,8 +61,7 @@ pub enum Span {
 // The place of the value after a name whose closing quotation mark is before q, without the white space around it.
 // Rules out a place that begins at the colon, and a comma in the place of the colon.
 pub fn value_span(s: &[u8], q: usize, depth: usize) -> Span
-    requires { ⌜ q ≤ length (now s) ⌝ }
-    ensures { λ r. ⌜ SpanAt (now (s .entry)) q depth r ⌝ }
+    ensures { λ r. ⌜ r ≡ valueSpan (now (s .entry)) q depth ⌝ }
 {
     let colon = skip_ws(s, q);
     if colon >= s.len() {
@@ -75,9 +71,6 @@ pub fn value_span(s: &[u8], q: usize, depth: usize) -> Span
         return Span::Nowhere;
     }
     let from = skip_ws(s, colon + 1);
-    if from >= s.len() {
-        return Span::Nowhere;
-    }
     match bare(s, from, depth) {
         End::At(to) => Span::Found(from, to),
         End::Bad => Span::Nowhere,

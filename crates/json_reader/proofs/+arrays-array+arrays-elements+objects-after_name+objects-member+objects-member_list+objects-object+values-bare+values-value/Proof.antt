@@ -1,11 +1,14 @@
 -- The readers that call one another meet their contracts.
+use mathlib.Core.Path.{sym, _∙_}
 use Prim.Native.Nat.{ℕ, _<_, _≤_, _-_, _*_, _+_}
 use native.Mathlib.Omega.{arith}
 use borrow.Author.Needs.{needs}
 use lib.ListN.{length}
+use Rattle.json_tokens.specs.TokenLaws.{skips}
+use Rattle.json_reader.specs.ReadLaws.{bare-is, members-end, members-is}
 use Rattle.json_string.specs.declared.End.{End}
 use Rattle.json_reader.specs.Contracts.{ElementsEnd, MembersEnd}
-use Rattle.json_reader.specs.EndsLaws.{ended, bounds}
+use Rattle.json_tokens.specs.EndsLaws.{ended, bounds}
 use Rattle.json_reader.proofs.CycleLaws as law
 use Rattle.json_grammar.specs.Sequences as seq
 use borrow.Fn.Kinds.{In}
@@ -27,9 +30,9 @@ use Rattle.json_reader.proofs.+arrays-array+arrays-elements+objects-aft
 use Rattle.json_reader.proofs.values.value.Reads as value
 use Rattle.json_reader.proofs.values.value.Kinds as value-kinds
 use Rattle.json_reader.proofs.+arrays-array+arrays-elements+objects-after_name+objects-member+objects-member_list+objects-object+values-bare+values-value.Lts-values-value as value-lts
-use Rattle.json_reader.proofs.numbers.number_end.Reads as number-end-reads
-use Rattle.json_reader.proofs.spaces.skip_ws.Reads as skip-ws-reads
-use Rattle.json_reader.proofs.words.word_end.Reads as word-end-reads
+use Rattle.json_tokens.proofs.number_end.Reads as number-end-reads
+use Rattle.json_tokens.proofs.skip_ws.Reads as skip-ws-reads
+use Rattle.json_tokens.proofs.word_end.Reads as word-end-reads
 use Rattle.json_string.proofs.string_end.Reads as string-end-reads
 use Rattle.json_reader.proofs.+arrays-array+arrays-elements+objects-after_name+objects-member+objects-member_list+objects-object+values-bare+values-value.{statement}
 use Rattle.json_reader.proofs.+arrays-array+arrays-elements+objects-after_name+objects-member+objects-member_list+objects-object+values-bare+values-value.Tie.{close}
@@ -46,13 +49,13 @@ called w pre t = and 1 value-kinds.ps (falls 1 value-kinds.ps _<_ (weight w) t) 
 
 -- what is right for the rest of a list is right for the whole
 abbrev Inv-elements : elements-lts.InvT-loop
-Inv-elements s from depth at₀ at = (from ≤ at) × (at ≤ length s) × ((r : End) → ElementsEnd s at depth r → ElementsEnd s from depth r)
+Inv-elements s from depth at₀ at = (from ≤ at) × ((r : End) → ElementsEnd s at depth r → ElementsEnd s from depth r)
 
 abbrev μ-elements : elements-lts.MeasureT-loop
 μ-elements s from depth at₀ at = length s - at
 
 abbrev Inv-member-list : member-list-lts.InvT-loop
-Inv-member-list s from depth at₀ at = (from ≤ at) × (at ≤ length s) × ((r : End) → MembersEnd s at depth r → MembersEnd s from depth r)
+Inv-member-list s from depth at₀ at = (from ≤ at) × ((r : End) → MembersEnd s at depth r → MembersEnd s from depth r)
 
 abbrev μ-member-list : member-list-lts.MeasureT-loop
 μ-member-list s from depth at₀ at = length s - at
@@ -74,38 +77,38 @@ pub +arrays·array+arrays·elements+objects·after-name+objects·member+objects�
     (entered 3 array.Pre t)
     array.Post
     (λ c. law.opened-deep seq.elements _ (c .if1 .taken))
-    (λ c κs. omega arith)
-    (λ c. law.opened-out seq.elements _ (c .before .before .if1 .left) (c .before .skip-ws .ensures) (c .if2 .taken))
+    (λ c κs. tt)
+    (λ c. law.opened-out seq.elements _ (c .before .before .if1 .left) (skips (c .before .skip-ws .ensures)) (c .if2 .taken))
     (λ c. omega arith) (λ c. omega arith)
-    (λ c. law.opened-empty seq.elements _ (c .before .before .before .before .if1 .left) (c .before .before .before .skip-ws .ensures) (c .before .before .if2 .left) (c .if3 .taken))
-    (λ c. omega arith) (λ c κs. omega arith)
-    (λ c. law.opened-some seq.elements _ (c .before .before .before .before .before .if1 .left) (c .before .before .before .before .skip-ws .ensures) (c .before .before .before .if2 .left) (c .before .if3 .left) (c .elements .ensures)))
+    (λ c. law.opened-empty seq.elements _ (c .before .before .before .before .if1 .left) (skips (c .before .before .before .skip-ws .ensures)) (c .before .before .if2 .left) (c .if3 .taken))
+    (λ c. omega arith) (λ c κs. omega (arith, skips (c .before .before .before .skip-ws .ensures) .low))
+    (λ c. law.opened-some seq.elements _ (c .before .before .before .before .before .if1 .left) (skips (c .before .before .before .before .skip-ws .ensures)) (c .before .before .before .if2 .left) (c .before .if3 .left) (c .elements .ensures)))
     -- elements
     (λ t. elements-lts.spec (called 1 value.Pre t, value.Post)
     (entered 2 elements.Pre t)
     elements.Post
     Inv-elements
     μ-elements
-    (λ c. (omega arith, omega arith, λ r h. h))
+    (λ c. (omega arith, λ r h. h))
     (λ c κs. omega arith) (λ c. search needs) (λ c. search needs)
-    (λ c. (c .before .before .before .loop .inv .2) _ (law.list-bad seq.elements _ (ended (c .enum-told .given .1) (c .before .before .value .ensures))))
-    (λ c. (c .before .before .before .before .before .loop .inv .2) _ (law.list-out seq.elements _ (ended (c .before .before .e .given .1) (c .before .before .before .before .value .ensures)) (c .if1 .taken)))
+    (λ c. (c .before .before .before .loop .inv .1) _ (law.list-bad seq.elements _ (ended (c .enum-told .given .1) (c .before .before .value .ensures))))
+    (λ c. (c .before .before .before .before .before .loop .inv .1) _ (law.list-out seq.elements _ (ended (c .before .before .e .given .1) (c .before .before .before .before .value .ensures)) (c .if1 .taken)))
     (λ c. omega arith) (λ c. omega arith)
-    (λ c. (c .before .before .before .before .before .before .before .loop .inv .2) _ (law.list-close seq.elements _ (ended (c .before .before .before .before .e .given .1) (c .before .before .before .before .before .before .value .ensures)) (c .before .before .if1 .left) (c .if2 .taken)))
-    (λ c. (c .before .before .before .before .before .before .before .before .loop .inv .2) _ (law.list-other seq.elements _ (ended (c .before .before .before .before .before .e .given .1) (c .before .before .before .before .before .before .before .value .ensures)) (c .before .before .before .if1 .left) (c .before .if2 .left) (c .if3 .taken)))
+    (λ c. (c .before .before .before .before .before .before .before .loop .inv .1) _ (law.list-close seq.elements _ (ended (c .before .before .before .before .e .given .1) (c .before .before .before .before .before .before .value .ensures)) (c .before .before .if1 .left) (c .if2 .taken)))
+    (λ c. (c .before .before .before .before .before .before .before .before .loop .inv .1) _ (law.list-other seq.elements _ (ended (c .before .before .before .before .before .e .given .1) (c .before .before .before .before .before .before .before .value .ensures)) (c .before .before .before .if1 .left) (c .before .if2 .left) (c .if3 .taken)))
     (λ c. omega arith)
     (λ c. omega (arith, bounds (ended (c .before .before .before .before .before .e .given .1) (c .before .before .before .before .before .before .before .value .ensures)) .0))
-    (λ c. (omega (arith, bounds (ended (c .before .before .before .before .before .e .given .1) (c .before .before .before .before .before .before .before .value .ensures)) .0), omega arith, λ r h. (c .before .before .before .before .before .before .before .before .loop .inv .2) r (law.elements-comma _ (ended (c .before .before .before .before .before .e .given .1) (c .before .before .before .before .before .before .before .value .ensures)) (c .before .before .before .if1 .left) (c .if3 .left) h))))
+    (λ c. (omega (arith, bounds (ended (c .before .before .before .before .before .e .given .1) (c .before .before .before .before .before .before .before .value .ensures)) .0), λ r h. (c .before .before .before .before .before .before .before .before .loop .inv .1) r (law.elements-comma _ (ended (c .before .before .before .before .before .e .given .1) (c .before .before .before .before .before .before .before .value .ensures)) (c .before .before .before .if1 .left) (c .if3 .left) h))))
     -- after_name
     (λ t. after-name-lts.spec (skip-ws-reads.Asked, skip-ws-reads.Learnt, called 1 value.Pre t, value.Post)
     (entered 0 after-name.Pre t)
     after-name.Post
-    (λ c κs. omega arith)
-    (λ c. law.colon-out _ (c .before .skip-ws .ensures) (c .if1 .taken))
+    (λ c κs. tt)
+    (λ c. law.colon-out _ (skips (c .before .skip-ws .ensures)) (c .if1 .taken))
     (λ c. omega arith)
-    (λ c. law.colon-other _ (c .before .before .before .skip-ws .ensures) (c .before .before .if1 .left) (c .if2 .taken))
-    (λ c. omega arith) (λ c κs. omega arith)
-    (λ c. law.colon-is _ (c .before .before .before .before .skip-ws .ensures) (c .before .before .before .if1 .left) (c .before .if2 .left) (c .value .ensures)))
+    (λ c. law.colon-other _ (skips (c .before .before .before .skip-ws .ensures)) (c .before .before .if1 .left) (c .if2 .taken))
+    (λ c. omega arith) (λ c κs. omega (arith, skips (c .before .before .before .skip-ws .ensures) .low))
+    (λ c. law.colon-is _ (skips (c .before .before .before .before .skip-ws .ensures)) (c .before .before .before .if1 .left) (c .before .if2 .left) (c .value .ensures)))
     -- member
     (λ t. member-lts.spec (string-end-reads.Asked, string-end-reads.Learnt, called 0 after-name.Pre t, after-name.Post)
     (entered 0 member.Pre t)
@@ -124,53 +127,52 @@ pub +arrays·array+arrays·elements+objects·after-name+objects·member+objects�
     member-list.Post
     Inv-member-list
     μ-member-list
-    (λ c. (omega arith, omega arith, λ r h. h))
+    (λ c. (omega arith, λ r h. h))
     (λ c κs. omega arith) (λ c. search needs) (λ c. search needs)
-    (λ c. (c .before .before .before .loop .inv .2) _ (law.list-bad seq.members _ (ended (c .enum-told .given .1) (c .before .before .member .ensures))))
-    (λ c. (c .before .before .before .before .before .loop .inv .2) _ (law.list-out seq.members _ (ended (c .before .before .e .given .1) (c .before .before .before .before .member .ensures)) (c .if1 .taken)))
+    (λ c. members-is _ ((c .before .before .before .loop .inv .1) _ (law.list-bad seq.members _ (ended (c .enum-told .given .1) (c .before .before .member .ensures)))))
+    (λ c. members-is _ ((c .before .before .before .before .before .loop .inv .1) _ (law.list-out seq.members _ (ended (c .before .before .e .given .1) (c .before .before .before .before .member .ensures)) (c .if1 .taken))))
     (λ c. omega arith) (λ c. omega arith)
-    (λ c. (c .before .before .before .before .before .before .before .loop .inv .2) _ (law.list-close seq.members _ (ended (c .before .before .before .before .e .given .1) (c .before .before .before .before .before .before .member .ensures)) (c .before .before .if1 .left) (c .if2 .taken)))
-    (λ c. (c .before .before .before .before .before .before .before .before .loop .inv .2) _ (law.list-other seq.members _ (ended (c .before .before .before .before .before .e .given .1) (c .before .before .before .before .before .before .before .member .ensures)) (c .before .before .before .if1 .left) (c .before .if2 .left) (c .if3 .taken)))
-    (λ c. omega arith) (λ c κs. omega arith)
-    (λ c. omega (arith, bounds (ended (c .before .before .before .before .before .before .e .given .1) (c .before .before .before .before .before .before .before .before .member .ensures)) .0, (c .skip-ws .ensures .low)))
-    (λ c. (omega (arith, bounds (ended (c .before .before .before .before .before .before .e .given .1) (c .before .before .before .before .before .before .before .before .member .ensures)) .0, (c .skip-ws .ensures .low)), (c .skip-ws .ensures .high), λ r h. (c .before .before .before .before .before .before .before .before .before .loop .inv .2) r (law.members-comma _ (ended (c .before .before .before .before .before .before .e .given .1) (c .before .before .before .before .before .before .before .before .member .ensures)) (c .before .before .before .before .if1 .left) (c .before .if3 .left) (c .skip-ws .ensures) h))))
+    (λ c. members-is _ ((c .before .before .before .before .before .before .before .loop .inv .1) _ (law.list-close seq.members _ (ended (c .before .before .before .before .e .given .1) (c .before .before .before .before .before .before .member .ensures)) (c .before .before .if1 .left) (c .if2 .taken))))
+    (λ c. members-is _ ((c .before .before .before .before .before .before .before .before .loop .inv .1) _ (law.list-other seq.members _ (ended (c .before .before .before .before .before .e .given .1) (c .before .before .before .before .before .before .before .member .ensures)) (c .before .before .before .if1 .left) (c .before .if2 .left) (c .if3 .taken))))
+    (λ c. omega arith) (λ c κs. tt)
+    (λ c. omega (arith, bounds (ended (c .before .before .before .before .before .before .e .given .1) (c .before .before .before .before .before .before .before .before .member .ensures)) .0, (skips (c .skip-ws .ensures) .low)))
+    (λ c. (omega (arith, bounds (ended (c .before .before .before .before .before .before .e .given .1) (c .before .before .before .before .before .before .before .before .member .ensures)) .0, (skips (c .skip-ws .ensures) .low)), λ r h. (c .before .before .before .before .before .before .before .before .before .loop .inv .1) r (law.members-comma _ (ended (c .before .before .before .before .before .before .e .given .1) (c .before .before .before .before .before .before .before .before .member .ensures)) (c .before .before .before .before .if1 .left) (c .before .if3 .left) (skips (c .skip-ws .ensures)) h))))
     -- object
     (λ t. object-lts.spec (skip-ws-reads.Asked, skip-ws-reads.Learnt, called 1 member-list.Pre t, member-list.Post)
     (entered 2 object.Pre t)
     object.Post
     (λ c. law.opened-deep seq.members _ (c .if1 .taken))
-    (λ c κs. omega arith)
-    (λ c. law.opened-out seq.members _ (c .before .before .if1 .left) (c .before .skip-ws .ensures) (c .if2 .taken))
+    (λ c κs. tt)
+    (λ c. law.opened-out seq.members _ (c .before .before .if1 .left) (skips (c .before .skip-ws .ensures)) (c .if2 .taken))
     (λ c. omega arith) (λ c. omega arith)
-    (λ c. law.opened-empty seq.members _ (c .before .before .before .before .if1 .left) (c .before .before .before .skip-ws .ensures) (c .before .before .if2 .left) (c .if3 .taken))
-    (λ c. omega arith) (λ c κs. omega arith)
-    (λ c. law.opened-some seq.members _ (c .before .before .before .before .before .if1 .left) (c .before .before .before .before .skip-ws .ensures) (c .before .before .before .if2 .left) (c .before .if3 .left) (c .member-list .ensures)))
+    (λ c. law.opened-empty seq.members _ (c .before .before .before .before .if1 .left) (skips (c .before .before .before .skip-ws .ensures)) (c .before .before .if2 .left) (c .if3 .taken))
+    (λ c. omega arith) (λ c κs. omega (arith, skips (c .before .before .before .skip-ws .ensures) .low))
+    (λ c. law.opened-some seq.members _ (c .before .before .before .before .before .if1 .left) (skips (c .before .before .before .before .skip-ws .ensures)) (c .before .before .before .if2 .left) (c .before .if3 .left) (members-end _ (c .member-list .ensures))))
     -- bare
     (λ t. bare-lts.spec (string-end-reads.Asked, string-end-reads.Learnt, called 3 array.Pre t, array.Post, called 2 object.Pre t, object.Post, word-end-reads.Asked, word-end-reads.Learnt, number-end-reads.Asked, number-end-reads.Learnt)
     (entered 0 bare.Pre t)
     bare.Post
+    (λ c. bare-is _ (law.bare-out _ (c .if1 .taken)))
     (λ c. omega arith) (λ c. omega arith) (λ c κs. tt)
-    (λ c. law.bare-string _ (c .before .before .before .before .pre .1) (c .before .if1 .taken) (c .string-end .ensures))
+    (λ c. bare-is _ (law.bare-string _ (c .before .before .before .if1 .left) (c .before .if2 .taken) (c .string-end .ensures)))
     (λ c. omega arith) (λ c κs. omega arith)
-    (λ c. law.bare-array _ (c .before .before .before .before .before .pre .1) (c .before .if2 .taken) (c .array .ensures))
+    (λ c. bare-is _ (law.bare-array _ (c .before .before .before .before .if1 .left) (c .before .if3 .taken) (c .array .ensures)))
     (λ c. omega arith) (λ c κs. omega arith)
-    (λ c. law.bare-object _ (c .before .before .before .before .before .before .pre .1) (c .before .if3 .taken) (c .object .ensures))
+    (λ c. bare-is _ (law.bare-object _ (c .before .before .before .before .before .if1 .left) (c .before .if4 .taken) (c .object .ensures)))
     (λ c. omega arith) (λ c. search needs) (λ c κs. omega arith)
-    (λ c. law.bare-true _ (c .before .before .before .before .before .before .before .before .pre .1) (c .before .before .if4 .taken) (c .word-end .ensures))
+    (λ c. bare-is _ (law.bare-true _ (c .before .before .before .before .before .before .before .if1 .left) (c .before .before .if5 .taken) (c .word-end .ensures)))
     (λ c. omega arith) (λ c. search needs) (λ c κs. omega arith)
-    (λ c. law.bare-false _ (c .before .before .before .before .before .before .before .before .before .pre .1) (c .before .before .if5 .taken) (c .word-end2 .ensures))
+    (λ c. bare-is _ (law.bare-false _ (c .before .before .before .before .before .before .before .before .if1 .left) (c .before .before .if6 .taken) (c .word-end2 .ensures)))
     (λ c. omega arith) (λ c. search needs) (λ c κs. omega arith)
-    (λ c. law.bare-null _ (c .before .before .before .before .before .before .before .before .before .before .pre .1) (c .before .before .if6 .taken) (c .word-end3 .ensures))
+    (λ c. bare-is _ (law.bare-null _ (c .before .before .before .before .before .before .before .before .before .if1 .left) (c .before .before .if7 .taken) (c .word-end3 .ensures)))
     (λ c κs. omega arith)
-    (λ c. law.bare-number _ (c .before .before .before .before .before .before .before .before .before .pre .1) (c .before .before .before .before .before .before .if1 .left) (c .before .before .before .before .before .if2 .left) (c .before .before .before .before .if3 .left) (c .before .before .before .if4 .left) (c .before .before .if5 .left) (c .before .if6 .left) (c .number-end .ensures)))
+    (λ c. bare-is _ (law.bare-number _ (c .before .before .before .before .before .before .before .before .if1 .left) (c .before .before .before .before .before .before .if2 .left) (c .before .before .before .before .before .if3 .left) (c .before .before .before .before .if4 .left) (c .before .before .before .if5 .left) (c .before .before .if6 .left) (c .before .if7 .left) (c .number-end .ensures))))
     -- value
     λ t. value-lts.spec (skip-ws-reads.Asked, skip-ws-reads.Learnt, called 0 bare.Pre t, bare.Post)
     (entered 1 value.Pre t)
     value.Post
-    (λ c κs. omega arith)
-    (λ c. law.value-out _ (c .before .skip-ws .ensures) (c .if1 .taken))
-    (λ c κs. omega arith) (λ c. search needs)
-    (λ c κs. bounds (ended (c .before .e .given .1) (c .before .before .before .bare .ensures)) .1)
-    (λ c. search needs)
-    (λ c. law.value-is _ (c .before .before .before .before .before .before .skip-ws .ensures) (ended (c .before .before .e .given .1) (c .before .before .before .before .bare .ensures)) (c .skip-ws2 .ensures))
-    (λ c. law.value-bad _ (c .before .before .before .before .skip-ws .ensures) (ended (c .enum-told .given .1) (c .before .before .bare .ensures)))
+    (λ c κs. tt)
+    (λ c κs. omega (arith, skips (c .skip-ws .ensures) .low))
+    (λ c. search needs) (λ c κs. tt) (λ c. search needs)
+    (λ c. law.value-is _ (skips (c .before .before .before .before .before .skip-ws .ensures)) (sym (c .before .before .e .given .1) ∙ c .before .before .before .before .bare .ensures) (skips (c .skip-ws2 .ensures)))
+    (λ c. law.value-bad _ (skips (c .before .before .before .skip-ws .ensures)) (sym (c .enum-told .given .1) ∙ c .before .before .bare .ensures))

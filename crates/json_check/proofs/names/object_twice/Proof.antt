@@ -1,32 +1,34 @@
 -- `object_twice` meets its contract.
 use borrow.Author.Needs.{needs}
-use Rattle.json_reader.specs.EndsLaws.{ended}
+use Rattle.json_tokens.specs.TokenLaws.{skips}
+use Rattle.json_tokens.specs.EndsLaws.{ended}
+use Rattle.json_reader.specs.ReadLaws.{members-end}
 use Rattle.json_check.proofs.NameLaws as law
 use Rattle.json_check.proofs.names.object_twice.Statement.{statement}
 use Rattle.json_check.proofs.names.object_twice.Tie as tie
 
 returns : tie.Need-returns
-returns c = law.object-closed _ (c .before .before .before .skip-ws .ensures) (c .before .before .if1 .taken) (c .if2 .taken)
+returns c = law.object-closed _ (skips (c .before .before .before .skip-ws .ensures)) (c .before .before .if1 .taken) (c .if2 .taken)
 
 returns-2 : tie.Need-returns-2
-returns-2 c = law.object-twice _ (c .before .before .before .before .before .before .before .before .skip-ws .ensures) (law.answered _ (c .before .before .before .if3 .taken) (c .before .before .before .before .names-twice .ensures)) (ended (c .enum-told .given .1) (c .before .before .member-list .ensures))
+returns-2 c = law.object-twice _ (skips (c .before .before .before .before .before .before .before .before .skip-ws .ensures)) (law.answered _ (c .before .before .before .if3 .taken) (c .before .before .before .before .names-twice .ensures)) (ended (c .enum-told .given .1) (members-end _ (c .before .before .member-list .ensures)))
 
 returns-3 : tie.Need-returns-3
-returns-3 c = law.object-bad _ (c .before .before .before .before .before .before .before .before .skip-ws .ensures) (ended (c .enum-told2 .given .1) (c .before .before .member-list .ensures))
+returns-3 c = law.object-bad _ (skips (c .before .before .before .before .before .before .before .before .skip-ws .ensures)) (ended (c .enum-told2 .given .1) (members-end _ (c .before .before .member-list .ensures)))
 
 returns-4 : tie.Need-returns-4
-returns-4 c = law.object-once _ (c .before .before .before .before .before .skip-ws .ensures) (law.answered _ (c .if3 .left) (c .before .names-twice .ensures))
+returns-4 c = law.object-once _ (skips (c .before .before .before .before .before .skip-ws .ensures)) (law.answered _ (c .if3 .left) (c .before .names-twice .ensures))
 
 returns-5 : tie.Need-returns-5
-returns-5 c = law.object-out _ (c .before .skip-ws .ensures) (c .if1 .left)
+returns-5 c = law.object-out _ (skips (c .before .skip-ws .ensures)) (c .if1 .left)
 
 pub object-twice-spec : {M : Type 1} → statement M
 object-twice-spec =
     tie.close
     (tie.spec
-    (λ c κs. search needs) (λ c. search needs)
+    (λ c κs. tt) (λ c. search needs)
     returns
-    (λ c κs. search needs) (λ c κs. search needs) (λ c. search needs)
+    (λ c κs. search needs) (λ c κs. tt) (λ c. search needs)
     returns-2
     (λ c. search needs)
     returns-3

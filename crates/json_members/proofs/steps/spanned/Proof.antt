@@ -1,7 +1,6 @@
 -- `spanned` meets its contract.
 use borrow.Author.Needs.{needs}
 use Rattle.json_members.proofs.StepPaths as law
-use borrow.Author.Needs.{needs}
 use Rattle.json_members.proofs.steps.spanned.Statement.{statement}
 use Rattle.json_members.proofs.steps.spanned.Tie as tie
 
@@ -12,5 +11,5 @@ pub spanned-spec : {M : Type 1} → statement M
 spanned-spec =
     tie.close
     (tie.spec
-    (λ c. search needs) (λ c κs. search needs) (λ c. search needs) (λ c κs. search needs) (λ c κs. search needs)
+    (λ c. search needs) (λ c κs. search needs) (λ c. search needs) (λ c κs. tt) (λ c κs. tt)
     returns)

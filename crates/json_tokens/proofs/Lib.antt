@@ -1,0 +1,3 @@
+-- Laws for the code's proofs.
+pub mod SkipLaws
+pub mod NumberLaws

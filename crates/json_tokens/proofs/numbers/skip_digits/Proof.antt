@@ -1,0 +1,29 @@
+-- `skip_digits` meets its contract.
+use mathlib.Core.Path.{_≡_, refl, sym, _∙_}
+use Prim.Native.Nat.{_-_}
+use native.Mathlib.Omega.{arith}
+use lib.ListN.{length}
+use Rattle.json_grammar.specs.Bytes.{isDigit}
+use Rattle.json_tokens.specs.Tokens.{skipTo}
+use Rattle.json_tokens.proofs.SkipLaws.{skip-more, skip-stop, skip-end}
+use Rattle.json_tokens.proofs.numbers.skip_digits.Statement.{statement}
+use Rattle.json_tokens.proofs.numbers.skip_digits.Tie as tie
+
+abbrev Inv-loop : tie.InvT-loop
+Inv-loop s from at₀ at = skipTo isDigit s at ≡ skipTo isDigit s from
+
+abbrev μ-loop : tie.MeasureT-loop
+μ-loop s from at₀ at = length s - at
+
+pub skip-digits-spec : {M : Type 1} → statement M
+unfolding isDigit
+skip-digits-spec =
+    tie.close
+    (tie.spec
+    Inv-loop
+    μ-loop
+    (λ c. refl)
+    (λ c. omega arith) (λ c κs. tt) (λ c. omega arith) (λ c. omega arith)
+    (λ c. skip-more isDigit _ _ (c .before .before .before .loop-test .taken) (sym (c .before .between .ensures) ∙ c .if1 .taken) ∙ c .before .before .before .before .loop .inv)
+    (λ c. skip-stop isDigit _ _ (c .before .before .before .loop-test .taken) (sym (c .before .between .ensures) ∙ c .if1 .left) ∙ c .before .before .before .before .loop .inv)
+    (λ c. skip-end isDigit _ _ (c .loop-test .left) ∙ c .before .loop .inv))
