@@ -132,7 +132,8 @@ fn many(what: &[u8], n: usize, twice: bool) {
     filled_row(what, &h);
 }
 
-fn limits() {
+// Arrays and objects within the depth, and one deeper.
+fn depths() {
     row(b"seven arrays nested", b"{\"x\":[[[[[[[]]]]]]]}");
     row(b"eight arrays nested", b"{\"x\":[[[[[[[[]]]]]]]]}");
     row(
@@ -143,20 +144,33 @@ fn limits() {
         b"eight objects nested",
         b"{\"x\":{\"x\":{\"x\":{\"x\":{\"x\":{\"x\":{\"x\":{\"x\":{}}}}}}}}}",
     );
+}
+
+// The greatest length, one byte more, and no byte.
+fn lengths() {
     long(b"1,024 bytes", 1024);
     long(b"1,025 bytes", 1025);
     row(b"no bytes", b"");
+}
+
+// The text is one object.
+fn tops() {
     row(b"no members", b" { } ");
     row(b"an array at the top", b"[]");
     row(b"bytes after the text", b"{}x");
 }
 
+// A member of each kind, and one more that is not there.
 fn kinds() {
     members(
         b"every kind",
         b" {\"s\" : \"\" , \"n\":-1.5e+2, \"t\":true,\"f\": false ,\"u\":null,\"a\": [ 1 , 2 ] ,\"o\": { } } ",
         8,
     );
+}
+
+// Values and members that the grammar does not derive.
+fn values() {
     row(b"a number that begins with 0", b"{\"x\":01}");
     row(b"a number with a plus sign", b"{\"x\":+1}");
     row(b"a number with no digit after the point", b"{\"x\":1.}");
@@ -166,7 +180,8 @@ fn kinds() {
     row(b"vertical tab", b"{\"x\":\x0B1}");
 }
 
-fn characters() {
+// Escapes, and surrogates that are escaped.
+fn escapes() {
     row(
         b"every short escape",
         b"{\"x\":\"\\\"\\\\\\/\\b\\f\\n\\r\\t\"}",
@@ -178,9 +193,17 @@ fn characters() {
     row(b"a high surrogate alone", b"{\"x\":\"\\uD834\"}");
     row(b"a high surrogate twice", b"{\"x\":\"\\uD834\\uD834\"}");
     row(b"a low surrogate alone", b"{\"x\":\"\\uDD1E\"}");
+}
+
+// Control characters.
+fn controls() {
     row(b"U+0000 escaped", b"{\"x\":\"\\u0000\"}");
     row(b"U+0000 as a byte", b"{\"x\":\"\x00\"}");
     row(b"a line feed in a string", b"{\"x\":\"\n\"}");
+}
+
+// Characters of two and three octets.
+fn octets() {
     row(b"U+0080 and U+07FF", b"{\"x\":\"\xC2\x80\xDF\xBF\"}");
     row(b"overlong form of two", b"{\"x\":\"\xC1\xBF\"}");
     row(
@@ -189,6 +212,10 @@ fn characters() {
     );
     row(b"overlong form of three", b"{\"x\":\"\xE0\x9F\xBF\"}");
     row(b"a surrogate in UTF-8", b"{\"x\":\"\xED\xA0\x80\"}");
+}
+
+// Characters of four octets, and no character.
+fn four_octets() {
     row(
         b"U+10000 and U+10FFFF",
         b"{\"x\":\"\xF0\x90\x80\x80\xF4\x8F\xBF\xBF\"}",
@@ -196,6 +223,10 @@ fn characters() {
     row(b"overlong form of four", b"{\"x\":\"\xF0\x8F\xBF\xBF\"}");
     row(b"above U+10FFFF", b"{\"x\":\"\xF4\x90\x80\x80\"}");
     row(b"a tail alone", b"{\"x\":\"\x80\"}");
+}
+
+// Byte order marks.
+fn marks() {
     row(
         b"a byte order mark before the text",
         b"\xEF\xBB\xBF{\"x\":1}",
@@ -206,6 +237,7 @@ fn characters() {
     );
 }
 
+// Names in one object and in several.
 fn names() {
     row(b"one name twice", b"{\"x\":1,\"x\":2}");
     row(b"names of different case", b"{\"x\":1,\"X\":2}");
@@ -227,6 +259,10 @@ fn names() {
     );
     row(b"the empty name twice", b"{\"\":1,\"\":2}");
     row(b"a name twice, then no end", b"{\"x\":1,\"x\":2");
+}
+
+// Names within a block of the search, and past it.
+fn blocks() {
     many(b"64 names", 64, false);
     many(b"65 names", 65, false);
     many(b"65 names, the last as the first", 65, true);
@@ -235,8 +271,16 @@ fn names() {
 }
 
 fn main() {
-    limits();
+    depths();
+    lengths();
+    tops();
     kinds();
-    characters();
+    values();
+    escapes();
+    controls();
+    octets();
+    four_octets();
+    marks();
     names();
+    blocks();
 }
