@@ -6,7 +6,7 @@ use Prim.Native.Nat.{ℕ}
 use Prim.Native.String.{String}
 use Rattle.common.specs.First.{first}
 use Rattle.common.specs.Ranges.{within, isDigit}
-use Rattle.json_grammar.specs.Value.{Value, Values, Members, stringV, numberV, trueV, arrayV, vnil, vcons, mnil, mcons, among, repeated}
+use Rattle.json_grammar.specs.Value.{Value, Values, Members, stringV, numberV, trueV, arrayV, objectV, vnil, vcons, mnil, mcons, among, repeated}
 use Rattle.json_characters.specs.Utf8.{utf8, octets}
 use Rattle.decimal.specs.Integer.{integerOf, allDigits, after}
 use Rattle.common.specs.Same.{same}
@@ -60,6 +60,8 @@ pub examples :
     × Answers ("alg" ∶ trueV then mnil) (hs1 ∷ []) 9
     × Answers ("alg" ∶ text "HS256" then "kid" ∶ number "1" then mnil) (hs1 ∷ []) 9
     × Answers ("alg" ∶ text "HS256" then "crit" ∶ arrayV (vcons (text "fmt") (vcons trueV vnil)) then mnil) (hs1 ∷ []) 9
+    × Answers ("alg" ∶ text "HS256" then "crit" ∶ objectV mnil then mnil) (hs1 ∷ []) 9
+    × Answers ("alg" ∶ text "HS256" then "crit" ∶ array ("fmt" ∷ []) then "fmt" ∶ text "1" then mnil) (hs1 ∷ []) 9
     × Answers ("alg" ∶ text "HS256" then "crit" ∶ array ("fmt" ∷ []) then "fmt" ∶ number "1e0" then mnil) (hs1 ∷ []) 9
     × Answers ("alg" ∶ text "HS256" then "crit" ∶ array ("fmt" ∷ []) then "fmt" ∶ number "9223372036854775808" then mnil) (hs1 ∷ []) 9
     -- critical rule broken
@@ -85,6 +87,8 @@ examples = (
   (refl, refl),
   (refl, refl),
   (refl, refl),
+  refl,
+  refl,
   refl,
   refl,
   refl,
