@@ -8,7 +8,6 @@ use lib.ListN.{length}
 use Rattle.common.specs.First.{Decides, holds}
 use Rattle.common.specs.Same.{same, decides-same}
 use Rattle.json_grammar.specs.Value.{Value, Members, LItems, inil, icons, plainItem, plainItems, among, repeated}
-use Rattle.json_grammar.specs.Places.{arrayK}
 use Rattle.json_string.specs.declared.End.{End}
 use Rattle.json_string.specs.declared.End.the-variants.{At, Bad}
 use Rattle.json_string.specs.Strings.{textIs}
@@ -26,7 +25,7 @@ use Rattle.jose_rules.specs.Only.{absent, given, bind}
 use Rattle.jose_rules.specs.HeaderTests.{reading}
 use Rattle.jose_rules.specs.Known.{or-false}
 use Rattle.jose_rules.specs.Tests.{lookup, said, wrong, anyOf, empty, listed, missingOrWrong, criticalBroken}
-use Rattle.jose.specs.Slots.{inside, Stands, isThere, isOf, formatAlone}
+use Rattle.jose.specs.Slots.{inside, Stands, isThere, isArray, formatAlone}
 use Rattle.jose.proofs.WordLaws.{isAscii, text-word}
 use Rattle.jose.proofs.SlotLaws.{no-member, there-is, array-at, wrong-there}
 use Rattle.jose.proofs.KindLaws.{or-true, or-none, Element, element-of, no-strings-other}
@@ -42,9 +41,9 @@ pub record Strings (h n : List ℕ) (x : Span) : Type 0 where
   pub is : said strings n (reading h) ≡ stringsIn (plainItems items)
 
 pub strings-at : {h n : List ℕ} {k : Kind} {x : Span} → Stands h n (Is k x) → wrong strings n (reading h) ≡ false → Strings h n x
-strings-at {h} {n} {k} {x} w f = go (isOf arrayK k) refl
+strings-at {h} {n} {k} {x} w f = go (isArray k) refl
   where
-    go : (b : Bool) → isOf arrayK k ≡ b → Strings h n x
+    go : (b : Bool) → isArray k ≡ b → Strings h n x
     go true e =
         let a = array-at w e in
         let s : said strings n (reading h) ≡ stringsIn (plainItems (a .0)) = ap (λ (o : Option Value). bind o strings) (a .1) in

@@ -14,7 +14,6 @@ use lib.Seq.{take-append-seam}
 use borrow.Author.Tests.{ltb-false, leb-true, leb-false, le-leb}
 use Rattle.common.specs.Same.{same}
 use Rattle.json_grammar.specs.Value.{Value}
-use Rattle.json_grammar.specs.Places.{stringK}
 use Rattle.json_string.specs.declared.Resolved.{Resolved}
 use Rattle.json_string.specs.declared.Resolved.the-variants.{Bytes, Nothing as Unresolved}
 use Rattle.json_string.specs.Strings.{NameAt, textIs, resolved, resolvedTo, resolvedAt, resolvedToAt}
@@ -39,7 +38,7 @@ use Rattle.jose_rules.specs.Only.{given, bind}
 use Rattle.jose_rules.specs.HeaderTests.{reading, headerChoice}
 use Rattle.jose_rules.specs.Tests.{indexOf, chosen, format, lacking, choice}
 use Rattle.jose_rules.specs.Decision.{choiceOf}
-use Rattle.jose.specs.Slots.{theKid, theTyp, theCty, Stands, Located, isOf, otherAlgorithm, KeyNamed, smallOf, choiceBy, keyDecision}
+use Rattle.jose.specs.Slots.{theKid, theTyp, theCty, Stands, Located, isString, otherAlgorithm, KeyNamed, smallOf, choiceBy, keyDecision}
 use Rattle.jose.proofs.WordLaws.{isAscii, text-word}
 use Rattle.jose.proofs.SlotLaws.{member, no-member, there-is, string-at, no-string-said, raw-is}
 
@@ -49,11 +48,11 @@ pub algorithm-absent : {h : List ℕ} → Stands h alg Absent → false ≡ othe
 algorithm-absent w = sym (ap (λ (o : Option Value). given (λ s. not (same s HS256)) (bind o string)) (no-member w))
 
 module _ {h : List ℕ} {k : Kind} {x : Span} (w : Stands h alg (Is k x)) where
-  pub algorithm-string : isOf stringK k ≡ true → (t : Bool) → t ≡ textIs h (x .start) HS256 → not t ≡ otherAlgorithm (reading h)
+  pub algorithm-string : isString k ≡ true → (t : Bool) → t ≡ textIs h (x .start) HS256 → not t ≡ otherAlgorithm (reading h)
   unfolding isAscii ascii HS256
   algorithm-string e t c = let s = string-at w e in ap not (c ∙ text-word HS256 refl h (x .start) (s .0) (s .2)) ∙ sym (ap (given (λ s. not (same s HS256))) (s .1))
 
-  pub algorithm-other : isOf stringK k ≡ false → false ≡ otherAlgorithm (reading h)
+  pub algorithm-other : isString k ≡ false → false ≡ otherAlgorithm (reading h)
   algorithm-other e = sym (ap (given (λ s. not (same s HS256))) (no-string-said w e))
 
 -- THE KEY THAT A STRING NAMES
@@ -111,11 +110,11 @@ module _ {h : List ℕ} (ks : List Key) where
   chosen-only w e = ap indexOf e ∙ rw (no-member w)
 
   module _ {k : Kind} {x : Span} (w : Stands h kid (Is k x)) where
-    pub chosen-named : isOf stringK k ≡ true → {f : Found} → KeyNamed h (x .start) ks f → indexOf f ≡ chosen (reading h) ks
+    pub chosen-named : isString k ≡ true → {f : Found} → KeyNamed h (x .start) ks f → indexOf f ≡ chosen (reading h) ks
     unfolding chosen
     chosen-named e n = let s = string-at w e in ap indexOf (n .is (s .0) (s .2)) ∙ rw (s .1, member w .is)
 
-    pub chosen-none : isOf stringK k ≡ false → none ≡ chosen (reading h) ks
+    pub chosen-none : isString k ≡ false → none ≡ chosen (reading h) ks
     unfolding chosen
     chosen-none e = rw (no-string-said w e, member w .is)
 

@@ -7,7 +7,6 @@ use Prim.Native.Nat.{ℕ, _-_}
 use lib.IntN.{pos}
 use lib.ListN.{take, drop}
 use Rattle.json_grammar.specs.Value.{Value, Members, LValue, LItems, item, inil, icons, plain, plainItems}
-use Rattle.json_grammar.specs.Places.{stringK, arrayK, numberK}
 use Rattle.json_string.specs.declared.End.{End}
 use Rattle.json_string.specs.declared.End.the-variants.{At, Bad}
 use Rattle.json_string.specs.Strings.{NameAt}
@@ -27,7 +26,7 @@ use Rattle.jose_rules.specs.Members.{string, strings, integer, stringsIn, value
 use Rattle.jose_rules.specs.Only.{absent, given, bind}
 use Rattle.jose_rules.specs.HeaderTests.{reading}
 use Rattle.jose_rules.specs.Tests.{lookup, said, wrong, format, missingOrWrong}
-use Rattle.jose.specs.Slots.{inside, theAlg, theKid, theTyp, theCty, Stands, Located, isThere, isOf, noString, sizeOf, StringsFrom}
+use Rattle.jose.specs.Slots.{inside, theAlg, theKid, theTyp, theCty, Stands, Located, isThere, isString, isNumber, isArray, noString, sizeOf, StringsFrom}
 use Rattle.jose.proofs.SlotLaws.{member, no-member, there-is, no-string-is, string-view, number-view, array-view, kind-no, held, not-said, array-at, number-at, wrong-there}
 
 -- ELEMENTS
@@ -45,7 +44,7 @@ pub record Element (h : List ℕ) (i : Item) (vs : LItems) : Type 0 where
   pub is : stringsIn (plainItems vs) ≡ bind (stringsIn (plainItems rest)) (λ ns. some (text ∷ ns))
 
 module _ {h : List ℕ} {p : ℕ} {i : Item} (it : ItemAt h p (inside - 1) i) where
-  pub element : (vs : LItems) → ElementsAt h p (inside - 1) vs → isOf stringK (i .kind) ≡ true → Element h i vs
+  pub element : (vs : LItems) → ElementsAt h p (inside - 1) vs → isString (i .kind) ≡ true → Element h i vs
   unfolding stringsIn plainItems plain
   element inil o e = no-elements (inside - 1) o
   element (icons (item a b v) vs) o e =
@@ -59,7 +58,7 @@ module _ {h : List ℕ} {p : ℕ} {i : Item} (it : ItemAt h p (inside - 1) i) wh
         is = ap (λ (u : LValue). bind (string (plain u)) (λ s. bind (stringsIn (plainItems vs)) (λ ns. some (s ∷ ns)))) (y .1);
       }
 
-  no-element : (vs : LItems) → ElementsAt h p (inside - 1) vs → isOf stringK (i .kind) ≡ false → stringsIn (plainItems vs) ≡ none
+  no-element : (vs : LItems) → ElementsAt h p (inside - 1) vs → isString (i .kind) ≡ false → stringsIn (plainItems vs) ≡ none
   unfolding stringsIn plainItems plain
   no-element inil o e = no-elements (inside - 1) o
   no-element (icons (item a b v) vs) o e =
@@ -68,13 +67,13 @@ module _ {h : List ℕ} {p : ℕ} {i : Item} (it : ItemAt h p (inside - 1) i) wh
 
   -- an element of an array of strings is a string
   pub element-of : (vs : LItems) → ElementsAt h p (inside - 1) vs → absent (stringsIn (plainItems vs)) ≡ false → Element h i vs
-  element-of vs o f = go (isOf stringK (i .kind)) refl
+  element-of vs o f = go (isString (i .kind)) refl
     where
-      go : (b : Bool) → isOf stringK (i .kind) ≡ b → Element h i vs
+      go : (b : Bool) → isString (i .kind) ≡ b → Element h i vs
       go true e = element vs o e
       go false e = absurd (true≢false (sym (ap absent (no-element vs o e)) ∙ f))
 
-  module _ {b : Bool} (k : b ≡ isOf stringK (i .kind)) where
+  module _ {b : Bool} (k : b ≡ isString (i .kind)) where
     pub strings-next : {q : ℕ} {r : Bool} → b ≡ true → i .next ≡ At q → StringsFrom h q r → StringsFrom h p r
     strings-next {q} {r} t e w = record { is = next }
       where
@@ -107,7 +106,7 @@ not-not true = refl
 not-not false = refl
 
 module _ {h n : List ℕ} {k : Kind} {x : Span} (w : Stands h n (Is k x)) where
-  module _ (e : isOf arrayK k ≡ true) where
+  module _ (e : isArray k ≡ true) where
     wrong-array : wrong strings n (reading h) ≡ absent (stringsIn (plainItems (array-at w e .0)))
     wrong-array = wrong-there w strings ∙ ap (λ (o : Option Value). absent (bind o strings)) (array-at w e .1)
 
@@ -122,7 +121,7 @@ module _ {h n : List ℕ} {k : Kind} {x : Span} (w : Stands h n (Is k x)) where
         let a = array-at w e in
         sym (wrong-array ∙ ap (λ (vs : LItems). absent (stringsIn (plainItems vs))) (f .is inside (a .0) (a .3)))
 
-  pub no-strings-other : isOf arrayK k ≡ false → true ≡ wrong strings n (reading h)
+  pub no-strings-other : isArray k ≡ false → true ≡ wrong strings n (reading h)
   no-strings-other e = sym (wrong-there w strings ∙ ap absent (not-said array-view w e))
 
 -- THE FORMAT
@@ -148,10 +147,10 @@ module _ {h : List ℕ} where
   format-absent w = sym (format-none (reading h) (no-member w))
 
   module _ {k : Kind} {x : Span} (w : Stands h fmt (Is k x)) where
-    pub format-number : isOf numberK k ≡ true → {r : Integer} → r ≡ integerOf (take (sizeOf x) (drop (x .start) h)) → valueOf r ≡ format (reading h)
+    pub format-number : isNumber k ≡ true → {r : Integer} → r ≡ integerOf (take (sizeOf x) (drop (x .start) h)) → valueOf r ≡ format (reading h)
     format-number e c = ap valueOf c ∙ sym (format-some (reading h) (member w .is) ∙ number-at w e .2)
 
-    pub format-other : isOf numberK k ≡ false → none ≡ format (reading h)
+    pub format-other : isNumber k ≡ false → none ≡ format (reading h)
     format-other e = sym (format-some (reading h) (member w .is) ∙ not-said number-view w e)
 
 -- THE KINDS TOGETHER

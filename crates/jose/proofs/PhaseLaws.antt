@@ -3,19 +3,22 @@ use mathlib.Core.Path.{_≡_, refl, sym, ap, _∙_}
 use mathlib.Core.Bool.{true, false}
 use mathlib.Core.List.{List, _++_}
 use mathlib.Core.Option.{none}
-use Prim.Native.Nat.{ℕ, zero, suc}
+use Prim.Native.Nat.{ℕ, zero, suc, _≤_, _<_}
 use native.Mathlib.Omega.{arith}
+use lib.ListN.{length}
+use borrow.Author.Tests.{lt-ltb, le-ltb}
 use Rattle.common.specs.First.{Test, first, first-within, first-after}
 use Rattle.json_grammar.specs.Value.{Members}
-use Rattle.json_rules.specs.Answers.{headerTests, checked}
+use Rattle.json_rules.specs.Rules.{longest, deepest}
+use Rattle.json_rules.specs.Answers.{grammarTests}
 use Rattle.keytable_rules.specs.Key.{Key}
 use Rattle.keytable_rules.specs.Table.{badTable, keys}
 use Rattle.jose_rules.specs.declared.Decision.{Decision}
 use Rattle.jose_rules.specs.declared.Decision.the-variants.{Refused}
 use Rattle.jose_rules.specs.Header.{HeaderChoice}
-use Rattle.jose_rules.specs.HeaderTests.{reading, headerChoice}
+use Rattle.jose_rules.specs.HeaderTests.{reading, headingTests, headerChoice}
 use Rattle.jose_rules.specs.Tests.{format, missingOrWrong, criticalBroken, knownTests}
-use Rattle.jose_rules.specs.Decision.{decided, decisionTests, decisionWith, decision}
+use Rattle.jose_rules.specs.Decision.{decided, decisionWith, decision}
 use Rattle.jose.specs.Slots.{otherAlgorithm, memberTests, keyTests, membersRefused, keyDecision}
 use Rattle.jose.proofs.KindLaws.{wrong-last}
 
@@ -49,26 +52,20 @@ module _ (ms : Members) where
 -- THE WHOLE
 
 module _ (h : List ℕ) (ks : List Key) where
-  tests-are : decisionTests h ks ≡ headerTests h ++ knownTests (reading h) ks
-  unfolding headerTests
-  tests-are = refl
-
   -- the first test of a phase that refuses, where the earlier phases don't
-  refused-in : (us ts : List Test) → first (decisionTests h ks) ≡ first (us ++ ts) → {n : ℕ} → n ≡ first us → (n ≡ 0 → ⊥) → Refused n ≡ decisionWith h ks
+  refused-in : (us ts : List Test) → first (headingTests h ks) ≡ first (us ++ ts) → {n : ℕ} → n ≡ first us → (n ≡ 0 → ⊥) → Refused n ≡ decisionWith h ks
   unfolding decisionWith
   refused-in us ts d {n} e z =
       decided-refused n (headerChoice h ks) z
       ∙ ap (λ (m : ℕ). decided m (headerChoice h ks)) (e ∙ sym (d ∙ first-within us ts (λ f. z (e ∙ f))))
 
-  pub decision-header : {n : ℕ} → n ≡ checked h → (n ≡ 0 → ⊥) → Refused n ≡ decisionWith h ks
-  unfolding checked
-  decision-header e z = refused-in (headerTests h) (knownTests (reading h) ks) (ap first tests-are) e z
+  pub decision-header : {n : ℕ} → n ≡ first (grammarTests deepest h) → (n ≡ 0 → ⊥) → Refused n ≡ decisionWith h ks
+  decision-header e z = refused-in (grammarTests deepest h) (knownTests (reading h) ks) refl e z
 
-  module _ (read-fine : checked h ≡ 0) where
-    -- past 5, 7 and 8
-    known-first : first (decisionTests h ks) ≡ first (knownTests (reading h) ks)
-    unfolding checked headerTests
-    known-first = ap first tests-are ∙ first-after (headerTests h) (knownTests (reading h) ks) refl read-fine
+  module _ (read-fine : first (grammarTests deepest h) ≡ 0) where
+    -- past 7 and 8
+    known-first : first (headingTests h ks) ≡ first (knownTests (reading h) ks)
+    known-first = first-after (grammarTests deepest h) (knownTests (reading h) ks) refl read-fine
 
     pub decision-members : {n : ℕ} → n ≡ membersRefused (reading h) → (n ≡ 0 → ⊥) → Refused n ≡ decisionWith h ks
     unfolding membersRefused
@@ -84,9 +81,13 @@ module _ (h : List ℕ) (ks : List Key) where
         (sym (known-first ∙ first-after (memberTests (reading h)) (keyTests (reading h) ks) refl e))
 
 module _ (h T : List ℕ) where
-  pub decision-good : badTable T ≡ false → decisionWith h (keys T) ≡ decision h T
+  pub decision-good : badTable T ≡ false → length h ≤ longest → decisionWith h (keys T) ≡ decision h T
   unfolding decisionWith decision
-  decision-good e = rw e
+  decision-good e f = rw (e, le-ltb longest (length h) f)
+
+  pub decision-long : badTable T ≡ false → longest < length h → Refused 5 ≡ decision h T
+  unfolding decision
+  decision-long e f = rw (e, lt-ltb longest (length h) f)
 
   pub decision-bad : badTable T ≡ true → Refused 2 ≡ decision h T
   unfolding decision

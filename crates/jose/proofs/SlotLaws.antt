@@ -5,7 +5,6 @@ use mathlib.Core.List.{List}
 use mathlib.Core.Option.{Option, none, some}
 use Prim.Native.Nat.{ℕ, _+_, _-_, _≤_, _<_}
 use native.Mathlib.Omega.{arith}
-use lib.Dec.{eqb}
 use lib.ListN.{length, take, drop}
 use Rattle.common.specs.Same.{same}
 use Rattle.json_grammar.specs.Value.{Value, arrayV, LValue, LItem, LItems, LMembers, stringL, numberL, trueL, falseL, nullL, arrayL, objectL, item, named, lnil, lcons, plain, plainItem, plainItems, plainMembers}
@@ -13,8 +12,7 @@ use Rattle.json_grammar.specs.Places.{Kind as Kinds, stringK, numberK, arrayK, 
 use Rattle.json_string.specs.Strings.{NameAt}
 use Rattle.json_members.specs.declared.places.Kind.{Kind}
 use Rattle.json_rules.specs.declared.Place.{Place as Span}
-use Rattle.json_members.specs.Members.{ArrayAt, Holds, ValueIs}
-use Rattle.json_rules.specs.Answers.{kindNumber}
+use Rattle.json_members.specs.Members.{ArrayAt, Holds, ValueIs, kindIn}
 use Rattle.decimal.specs.Integer.{integerOf}
 use Rattle.jose_rules.specs.declared.Place.{Place}
 use Rattle.jose.specs.declared.members.Slot.{Slot}
@@ -24,7 +22,7 @@ use Rattle.jose_rules.specs.Only.{absent, given, bind}
 use Rattle.jose_rules.specs.Header.{valuePlace}
 use Rattle.jose_rules.specs.HeaderTests.{located, reading, rawText}
 use Rattle.jose_rules.specs.Tests.{lookup, said, wrong}
-use Rattle.jose.specs.Slots.{inside, itemOf, Shows, Stands, isThere, isOf, noString, sizeOf, rawOf}
+use Rattle.jose.specs.Slots.{inside, itemOf, Shows, Stands, isThere, byKind, isString, isNumber, isArray, noString, sizeOf, rawOf}
 
 pub stands-as : {h n : List ℕ} {s t : Slot} → Stands h n s → s ≡ t → Stands h n t
 stands-as {h} {n} w e = subst (λ (s : Slot). Stands h n s) e w
@@ -74,84 +72,72 @@ there-is (Is k x) w = sym (ap (λ (o : Option Value). not (absent o)) (member w 
 
 -- THE KINDS: by its kind a value is a string, an array or a number, or it says nothing of the sort
 
-abbrev pub isKind : Kinds → LValue → Bool
-isKind c v = eqb (kindNumber (kindOf (plain v))) (kindNumber c)
+-- v is of the kind c, which `is` tells, or says nothing
+pub data View {B : Type 0} (c : Kinds) (is : Kinds → Bool) (says : Said B) (v : LValue) : Bool → Type 0 where
+  yes : kindOf (plain v) ≡ c → View c is says v true
+  no : says (plain v) ≡ none → View c is says v false
 
-pub data View {B : Type 0} (c : Kinds) (says : Said B) (v : LValue) : Bool → Type 0 where
-  yes : kindOf (plain v) ≡ c → View c says v true
-  no : says (plain v) ≡ none → View c says v false
+abbrev pub Tells : {B : Type 0} → Kinds → (Kinds → Bool) → Said B → LValue → Type 0
+Tells c is says v = View c is says v (is (kindOf (plain v)))
 
-pub string-view : (v : LValue) → View stringK string v (isKind stringK v)
-unfolding kindNumber kindOf plain
-string-view (stringL cs) = yes refl
-string-view (numberL cs) = no refl
-string-view trueL = no refl
-string-view falseL = no refl
-string-view nullL = no refl
-string-view (arrayL vs) = no refl
-string-view (objectL ms) = no refl
+views : (v : LValue)
+    → Tells stringK (byKind true false false) string v × Tells numberK (byKind false true false) integer v × Tells arrayK (byKind false false true) strings v
+unfolding kindOf plain
+views (stringL cs) = (yes refl, no refl, no refl)
+views (numberL cs) = (no refl, yes refl, no refl)
+views trueL = (no refl, no refl, no refl)
+views falseL = (no refl, no refl, no refl)
+views nullL = (no refl, no refl, no refl)
+views (arrayL vs) = (no refl, no refl, yes refl)
+views (objectL ms) = (no refl, no refl, no refl)
 
-pub number-view : (v : LValue) → View numberK integer v (isKind numberK v)
-unfolding kindNumber kindOf plain
-number-view (stringL cs) = no refl
-number-view (numberL cs) = yes refl
-number-view trueL = no refl
-number-view falseL = no refl
-number-view nullL = no refl
-number-view (arrayL vs) = no refl
-number-view (objectL ms) = no refl
+pub string-view : (v : LValue) → Tells stringK (byKind true false false) string v
+string-view v = views v .0
 
-pub array-view : (v : LValue) → View arrayK strings v (isKind arrayK v)
-unfolding kindNumber kindOf plain
-array-view (stringL cs) = no refl
-array-view (numberL cs) = no refl
-array-view trueL = no refl
-array-view falseL = no refl
-array-view nullL = no refl
-array-view (arrayL vs) = yes refl
-array-view (objectL ms) = no refl
+pub number-view : (v : LValue) → Tells numberK (byKind false true false) integer v
+number-view v = views v .1
 
-module _ {B : Type 0} {says : Said B} {c : Kinds} (view : (v : LValue) → View c says v (isKind c v)) where
+pub array-view : (v : LValue) → Tells arrayK (byKind false false true) strings v
+array-view v = views v .2
+
+module _ {B : Type 0} {says : Said B} {c : Kinds} {is : Kinds → Bool} (view : (v : LValue) → View c is says v (is (kindOf (plain v)))) where
   module _ {h a b : List ℕ} {d : ℕ} {k : Kind} {x : Span} {v : LValue} (w : ValueIs h d k x a b v) where
-    of-kind : isOf c k ≡ isKind c v
-    of-kind = ap (λ (z : Kinds). eqb (kindNumber z) (kindNumber c)) (w .kind)
-
-    kind-yes : isOf c k ≡ true → kindOf (plain v) ≡ c
-    kind-yes t = go (isKind c v) (view v) (sym of-kind ∙ t)
+    kind-yes : is (kindIn k) ≡ true → kindOf (plain v) ≡ c
+    kind-yes t = go (is (kindOf (plain v))) (view v) (sym (ap is (w .kind)) ∙ t)
       where
-        go : (b : Bool) → View c says v b → b ≡ true → kindOf (plain v) ≡ c
+        go : (b : Bool) → View c is says v b → b ≡ true → kindOf (plain v) ≡ c
         go true (yes p) t = p
         go false (no p) t = absurd (true≢false (sym t))
 
-    pub kind-no : isOf c k ≡ false → says (plain v) ≡ none
-    kind-no t = go (isKind c v) (view v) (sym of-kind ∙ t)
+    pub kind-no : is (kindIn k) ≡ false → says (plain v) ≡ none
+    kind-no t = go (is (kindOf (plain v))) (view v) (sym (ap is (w .kind)) ∙ t)
       where
-        go : (b : Bool) → View c says v b → b ≡ false → says (plain v) ≡ none
+        go : (b : Bool) → View c is says v b → b ≡ false → says (plain v) ≡ none
         go true (yes p) t = absurd (true≢false t)
         go false (no p) t = p
 
     -- what stands at the place of a value of the kind c
-    pub held : isOf c k ≡ true → Holds h d x c v
+    pub held : is (kindIn k) ≡ true → Holds h d x c v
     held t = subst (λ (z : Kinds). Holds h d x z v) (w .kind ∙ kind-yes t) (w .holds)
 
   -- a member of another kind says nothing
-  pub not-said : {h n : List ℕ} {k : Kind} {x : Span} → Stands h n (Is k x) → isOf c k ≡ false → said says n (reading h) ≡ none
+  pub not-said : {h n : List ℕ} {k : Kind} {x : Span} → Stands h n (Is k x) → is (kindIn k) ≡ false → said says n (reading h) ≡ none
   not-said w e = let m = member w in ap (λ (o : Option Value). bind o says) (m .is) ∙ kind-no (m .stands) e
 
 module _ {h n : List ℕ} {k : Kind} {x : Span} (w : Stands h n (Is k x)) where
   -- a string says its code points, which stand at its place
-  pub string-at : isOf stringK k ≡ true → (s : List ℕ) × (said string n (reading h) ≡ some s) × NameAt h (x .start) s
+  pub string-at : isString k ≡ true → (s : List ℕ) × (said string n (reading h) ≡ some s) × NameAt h (x .start) s
   unfolding plain
   string-at e =
       let m = member w in
       let y = held string-view (m .stands) e in
       (y .0, ap (λ (o : Option Value). bind o string) (m .is) ∙ ap (λ (v : LValue). string (plain v)) (y .1), y .2)
 
-  pub no-string-said : isOf stringK k ≡ false → said string n (reading h) ≡ none
+  pub no-string-said : isString k ≡ false → said string n (reading h) ≡ none
   no-string-said = not-said string-view w
 
   -- an array's elements stand past its bracket
-  pub array-at : isOf arrayK k ≡ true → (vs : LItems) × (lookup n (reading h) ≡ some (arrayV (plainItems vs))) × (x .start < length h) × ArrayAt h (x .start + 1) inside vs
+  pub array-at : isArray k ≡ true → (vs : LItems) × (lookup n (reading h) ≡ some (arrayV (plainItems vs))) × (x .start < length h) × ArrayAt h (x .start + 1) inside vs
   unfolding plain
   array-at e =
       let m = member w in
@@ -159,7 +145,7 @@ module _ {h n : List ℕ} {k : Kind} {x : Span} (w : Stands h n (Is k x)) where
       (y .0, m .is ∙ ap (λ (v : LValue). some (plain v)) (y .1), y .2, y .3)
 
   -- a number's characters are those at its place
-  pub number-at : isOf numberK k ≡ true
+  pub number-at : isNumber k ≡ true
       → (x .start ≤ length h) × (x .end ≤ length h) × (said integer n (reading h) ≡ valueOf (integerOf (take (sizeOf x) (drop (x .start) h))))
   unfolding plain margin placeOf
   number-at e =
@@ -180,9 +166,9 @@ wrong-absent says w = ap (given (λ v. absent (says v))) (no-member w)
 
 pub no-string-is : {h n : List ℕ} (s : Slot) → Stands h n s → noString s ≡ wrong string n (reading h)
 no-string-is Absent w = sym (wrong-absent string w)
-no-string-is {h} {n} (Is k x) w = go (isOf stringK k) refl
+no-string-is {h} {n} (Is k x) w = go (isString k) refl
   where
-    go : (b : Bool) → isOf stringK k ≡ b → not b ≡ wrong string n (reading h)
+    go : (b : Bool) → isString k ≡ b → not b ≡ wrong string n (reading h)
     go true e = sym (wrong-there w string ∙ ap absent (string-at w e .1))
     go false e = sym (wrong-there w string ∙ ap absent (no-string-said w e))
 

@@ -4,6 +4,7 @@ use mathlib.Core.Bool.{Bool, true, false, cond, true≢false}
 use mathlib.Core.List.{List}
 use mathlib.Core.Option.{Option, none, some}
 use Prim.Native.Nat.{ℕ, _+_}
+use Rattle.common.specs.First.{first}
 use Rattle.common.specs.Same.{same}
 use Rattle.json_grammar.specs.Value.{LValue, LItem, LMembers, item, named, lnil, lcons}
 use Rattle.json_string.specs.declared.End.{End}
@@ -15,8 +16,8 @@ use Rattle.json_members.specs.Members.{MembersAt, MembersFrom, TopMembers, Entr
 use Rattle.json_members.specs.MemberLaws.{no-members}
 use Rattle.json_members.specs.StepLaws.{first-name}
 use Rattle.json_rules.specs.Rules.{deepest}
-use Rattle.json_rules.specs.Answers.{membersIn, checked}
-use Rattle.json_rules.specs.AnswerLaws.{checked-read}
+use Rattle.json_rules.specs.Answers.{membersIn, grammarTests}
+use Rattle.json_rules.specs.AnswerLaws.{grammar-read}
 use Rattle.jose.specs.declared.members.Slot.{Slot}
 use Rattle.jose.specs.declared.members.Slot.the-variants.{Absent, Is}
 use Rattle.jose.specs.declared.members.Known.{Known}
@@ -132,10 +133,10 @@ module _ {h : List ℕ} {from p : ℕ} {m : Entry} {old new : Known} (g : Walkin
 
 -- THE TOP OBJECT, of a header that is read
 
-module _ {h : List ℕ} {r : End} (c : checked h ≡ 0) (t : TopMembers h r) where
+module _ {h : List ℕ} {r : End} (c : first (grammarTests deepest h) ≡ 0) (t : TopMembers h r) where
   -- its members
   top : (ms : LMembers) × MembersFrom h inside r ms × (located h ≡ ms)
-  top = let g = checked-read h c in (g .0, t .is deepest (g .0) (g .1) (g .2), ap membersIn (g .2))
+  top = let g = grammar-read deepest h c in (g .0, t .is deepest (g .0) (g .1) (g .2), ap membersIn (g .2))
 
   module _ {m : Known} where
     pub located-from : {from : ℕ} → r ≡ At from → Walked h from m → Located h m

@@ -4,13 +4,12 @@ use mathlib.Core.Bool.{Bool, true, false, cond, not}
 use mathlib.Core.List.{List, [], _∷_}
 use mathlib.Core.Option.{Option, none, some}
 use Prim.Native.Nat.{ℕ, _+_, _-_}
-use lib.Dec.{eqb}
 use lib.IntN.{ℤ, pos, natAbs}
 use lib.Signed.{ltZ}
 use Rattle.common.specs.First.{Test, _when_, first}
 use Rattle.common.specs.Same.{same}
 use Rattle.json_grammar.specs.Value.{Members, LItem, LItems, LMembers, item, named, lnil, lcons, plainItems}
-use Rattle.json_grammar.specs.Places.{Kind as Kinds, stringK}
+use Rattle.json_grammar.specs.Places.{Kind as Kinds, stringK, numberK, trueK, falseK, nullK, arrayK, objectK}
 use Rattle.json_string.specs.Strings.{NameAt}
 use Rattle.json_characters.specs.Utf8.{utf8}
 use Rattle.json_members.specs.declared.places.Kind.{Kind}
@@ -18,7 +17,6 @@ use Rattle.json_rules.specs.declared.Place.{Place as Span}
 use Rattle.json_members.specs.declared.steps.Entry.{Entry}
 use Rattle.json_members.specs.Members.{MembersAt, ElementsAt, ValueIs, kindIn}
 use Rattle.json_rules.specs.Rules.{deepest}
-use Rattle.json_rules.specs.Answers.{kindNumber}
 use Rattle.keytable_rules.specs.declared.Found.{Found}
 use Rattle.keytable_rules.specs.Key.{Key, find, key, allowsHS256}
 use Rattle.jose_rules.specs.declared.Choice.{Choice}
@@ -86,14 +84,29 @@ abbrev pub isThere : Slot → Bool
 isThere Absent = false
 isThere (Is k x) = true
 
--- the kind is c
-abbrev pub isOf : Kinds → Kind → Bool
-isOf c k = eqb (kindNumber (kindIn k)) (kindNumber c)
+-- of a string, a number, an array; false of any other kind
+abbrev pub byKind : Bool → Bool → Bool → Kinds → Bool
+byKind string number array stringK = string
+byKind string number array numberK = number
+byKind string number array trueK = false
+byKind string number array falseK = false
+byKind string number array nullK = false
+byKind string number array arrayK = array
+byKind string number array objectK = false
+
+abbrev pub isString : Kind → Bool
+isString k = byKind true false false (kindIn k)
+
+abbrev pub isNumber : Kind → Bool
+isNumber k = byKind false true false (kindIn k)
+
+abbrev pub isArray : Kind → Bool
+isArray k = byKind false false true (kindIn k)
 
 -- there is a member, and it isn't a string
 abbrev pub noString : Slot → Bool
 noString Absent = false
-noString (Is k x) = not (isOf stringK k)
+noString (Is k x) = not (isString k)
 
 abbrev pub sizeOf : Span → ℕ
 sizeOf x = x .end - x .start

@@ -3,14 +3,12 @@ ghost use mathlib.Core.Path.{_≡_};
 ghost use mathlib.Core.Bool.{false};
 ghost use Prim.Native.Nat.{_<_};
 ghost use lib.ListN.{length};
-ghost use Rattle.json_grammar.specs.Places.{stringK, numberK, arrayK};
-ghost use Rattle.json_rules.specs.Answers.{kindNumber};
 ghost use Rattle.json_members.specs.Members.{kindIn};
 ghost use Rattle.jose_rules.specs.HeaderTests.{reading};
 ghost use Rattle.jose_rules.specs.Members.{strings, valueOf};
 ghost use Rattle.jose_rules.specs.Names.{crit, fmt};
 ghost use Rattle.jose_rules.specs.Only.{absent};
-ghost use Rattle.jose.specs.Slots.{Stands, Located, isOf, noString, sizeOf, StringsFrom};
+ghost use Rattle.jose.specs.Slots.{Stands, Located, byKind, isString, isNumber, isArray, noString, sizeOf, StringsFrom};
 ghost use Rattle.jose_rules.specs.Tests.{wrong, format, missingOrWrong};
 use crate::members::INSIDE;
 use crate::members::Known;
@@ -137,34 +135,34 @@ pub(crate) fn size(place: Place) -> usize
 }
 
 pub(crate) fn is_string(kind: Kind) -> bool
-    ensures { λ r. ⌜ r ≡ isOf stringK kind ⌝ }
+    ensures { λ r. ⌜ r ≡ isString kind ⌝ }
 {
-    number_of(kind) == 1
+    by_kind(kind, true, false, false)
 }
 
 fn is_number(kind: Kind) -> bool
-    ensures { λ r. ⌜ r ≡ isOf numberK kind ⌝ }
+    ensures { λ r. ⌜ r ≡ isNumber kind ⌝ }
 {
-    number_of(kind) == 2
+    by_kind(kind, false, true, false)
 }
 
 fn is_array(kind: Kind) -> bool
-    ensures { λ r. ⌜ r ≡ isOf arrayK kind ⌝ }
+    ensures { λ r. ⌜ r ≡ isArray kind ⌝ }
 {
-    number_of(kind) == 6
+    by_kind(kind, false, false, true)
 }
 
-// The number of a kind, 1 to 7 in the specification's order.
-fn number_of(kind: Kind) -> u8
-    ensures { λ r. ⌜ r ≡ kindNumber (kindIn kind) ⌝ }
+// `string` of a string, `number` of a number, `array` of an array; false of any other kind.
+fn by_kind(kind: Kind, string: bool, number: bool, array: bool) -> bool
+    ensures { λ r. ⌜ r ≡ byKind string number array (kindIn kind) ⌝ }
 {
     match kind {
-        Kind::String => 1,
-        Kind::Number => 2,
-        Kind::True => 3,
-        Kind::False => 4,
-        Kind::Null => 5,
-        Kind::Array => 6,
-        Kind::Object => 7,
+        Kind::String => string,
+        Kind::Number => number,
+        Kind::True => false,
+        Kind::False => false,
+        Kind::Null => false,
+        Kind::Array => array,
+        Kind::Object => false,
     }
 }

@@ -22,7 +22,9 @@ use crate::members::Known;
 use crate::members::known_members;
 use decimal::Integer;
 use jose_rules::Decision;
-use json::check;
+use json_check::check_text;
+use json_rules::DEEPEST;
+use json_rules::LONGEST;
 
 // What the header decides with the keys of the table. Rules out that a bad table is answered as a bad header, and that a `kid` that
 // no key has falls back to the only key.
@@ -30,18 +32,21 @@ pub fn decide(header: &[u8], table: &[u8]) -> Decision
     ensures { λ r. ⌜ r ≡ decision (now (header .entry)) (now (table .entry)) ⌝ }
 {
     if keytable::good(table) {
+        if LONGEST < header.len() {
+            return Decision::Refused(5);
+        }
         return decide_with(header, table);
     }
     Decision::Refused(2)
 }
 
-// The same with a table that is known to be in order. Rules out that `alg` chooses though the key's bit is 0, that a header with a
+// Rules 7 to 14, of a header of any length, with a table that is known to be in order. Rules out that `alg` chooses though the key's bit is 0, that a header with a
 // name twice is let through, that an unknown name in `crit` is ignored, and that a `fmt` that `crit` doesn't list chooses the format.
 pub fn decide_with(header: &[u8], table: &[u8]) -> Decision
     requires { ⌜ badTable (now table) ≡ false ⌝ }
     ensures { λ r. ⌜ r ≡ decisionWith (now (header .entry)) (keys (now (table .entry))) ⌝ }
 {
-    let n = check(header);
+    let n = check_text(header, DEEPEST);
     if n != 0 {
         return Decision::Refused(n);
     }

@@ -2,14 +2,16 @@
 ghost use mathlib.Core.Path.{_≡_};
 ghost use Prim.Native.Nat.{_<_};
 ghost use lib.ListN.{length};
-ghost use Rattle.json_rules.specs.Answers.{checked};
+ghost use Rattle.common.specs.First.{first};
+ghost use Rattle.json_rules.specs.Rules.{deepest};
+ghost use Rattle.json_rules.specs.Answers.{grammarTests};
 ghost use Rattle.jose.specs.Slots.{isThere, NoneKnown, Taken, Noted, Walked, Located};
-use json::DEEPEST;
 use json_members::Entry;
 use json_members::Kind;
 use json_members::Place;
 use json_members::entry_at;
 use json_members::top_members;
+use json_rules::DEEPEST;
 use json_string::End;
 use json_string::text_is;
 
@@ -33,7 +35,7 @@ pub struct Known {
 
 // The known members of a header that is read.
 pub(crate) fn known_members(header: &[u8]) -> Known
-    requires { ⌜ checked (now header) ≡ 0 ⌝ }
+    requires { ⌜ first (grammarTests deepest (now header)) ≡ 0 ⌝ }
     ensures { λ r. ⌜ Located (now (header .entry)) r ⌝ }
 {
     match top_members(header) {

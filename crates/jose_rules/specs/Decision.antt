@@ -22,13 +22,14 @@ abbrev pub decided : ℕ → HeaderChoice → Decision
 decided zero c = Chosen (choiceOf c)
 decided (suc n) c = Refused (suc n)
 
--- 5, then 7 to 14
+-- 7 to 14, of a header of any length
+unfoldable pub decisionWith : List ℕ → List Key → Decision
+decisionWith h ks = decided (first (headingTests h ks)) (headerChoice h ks)
+
+-- 5 stands before them, ..
 abbrev pub decisionTests : List ℕ → List Key → List Test
 decisionTests h ks = 5 when ltb longest (length h) ∷ headingTests h ks
 
-unfoldable pub decisionWith : List ℕ → List Key → Decision
-decisionWith h ks = decided (first (decisionTests h ks)) (headerChoice h ks)
-
--- 2 stands before them
+-- .. and 2 before these
 unfoldable pub decision : List ℕ → List ℕ → Decision
 decision h T = decided (first (2 when badTable T ∷ decisionTests h (keys T))) (headerChoice h (keys T))

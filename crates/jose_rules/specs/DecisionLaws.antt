@@ -1,12 +1,12 @@
 -- What a decision says: the number is that of the first rule that refuses; where none does, the choice is the header's, and its key is one of the keys.
-use mathlib.Core.Path.{_≡_, refl, sym}
+use mathlib.Core.Path.{_≡_, refl, sym, _∙_}
 use mathlib.Core.Bool.{Bool, true, false, cond, true≢false}
 use mathlib.Core.List.{List, _∷_}
 use mathlib.Core.Option.{Option, none, some}
 use Prim.Native.Nat.{ℕ, zero, suc, _<_}
 use native.Mathlib.Omega.{arith}
 use lib.ListN.{length}
-use Rattle.common.specs.First.{_when_, first, all-pass}
+use Rattle.common.specs.First.{_when_, first, all-pass, first-next}
 use Rattle.json_grammar.specs.Value.{Value, Members}
 use Rattle.json_characters.specs.Utf8.{utf8}
 use Rattle.keytable_rules.specs.declared.Found.{Found}
@@ -21,7 +21,7 @@ use Rattle.jose_rules.specs.Names.{kid}
 use Rattle.jose_rules.specs.Members.{string}
 use Rattle.jose_rules.specs.Only.{absent, bind, orElse}
 use Rattle.jose_rules.specs.Header.{HeaderChoice}
-use Rattle.jose_rules.specs.HeaderTests.{reading, headerChoice}
+use Rattle.jose_rules.specs.HeaderTests.{reading, headingTests, headerChoice}
 use Rattle.jose_rules.specs.Tests.{lookup, indexOf, chosen, choice}
 use Rattle.jose_rules.specs.Decision.{choiceOf, decided, decisionTests, decisionWith, decision}
 
@@ -55,23 +55,23 @@ chosen-within ms ks {i} e = go (lookup kid ms) e
     go (some v) e = named (string v) e
 
 module _ (h : List ℕ) (ks : List Key) where
-  pub choice-within : first (decisionTests h ks) ≡ 0 → headerChoice h ks .choice .index < length ks
+  pub choice-within : first (headingTests h ks) ≡ 0 → headerChoice h ks .choice .index < length ks
   unfolding headerChoice choice
-  choice-within e = go (chosen (reading h) ks) refl (all-pass (decisionTests h ks) refl e .1 .1 .1 .1 .1 .1 .0)
+  choice-within e = go (chosen (reading h) ks) refl (all-pass (headingTests h ks) refl e .1 .1 .1 .1 .1 .0)
     where
       go : (o : Option ℕ) → chosen (reading h) ks ≡ o → absent o ≡ false → orElse (chosen (reading h) ks) 0 < length ks
       go none e f = absurd (true≢false f)
       go (some i) e f = rw e (chosen-within (reading h) ks (sym e))
 
   -- for callers of `decide_with`
-  pub with-refused : {n : ℕ} → Refused n ≡ decisionWith h ks → (n ≡ first (decisionTests h ks)) × (n ≡ 0 → ⊥)
+  pub with-refused : {n : ℕ} → Refused n ≡ decisionWith h ks → (n ≡ first (headingTests h ks)) × (n ≡ 0 → ⊥)
   unfolding decisionWith
-  with-refused e = refused-is (first (decisionTests h ks)) (headerChoice h ks) e
+  with-refused e = refused-is (first (headingTests h ks)) (headerChoice h ks) e
 
-  pub with-chosen : {d : Choice} → Chosen d ≡ decisionWith h ks → (first (decisionTests h ks) ≡ 0) × (d ≡ choiceOf (headerChoice h ks)) × (d .index < length ks)
+  pub with-chosen : {d : Choice} → Chosen d ≡ decisionWith h ks → (first (headingTests h ks) ≡ 0) × (d ≡ choiceOf (headerChoice h ks)) × (d .index < length ks)
   unfolding decisionWith
   with-chosen {d} e =
-      let c = chosen-is (first (decisionTests h ks)) (headerChoice h ks) e in
+      let c = chosen-is (first (headingTests h ks)) (headerChoice h ks) e in
       (c .0, c .1, rw (c .1) (choice-within (c .0)))
 
 -- for callers of `decide`
@@ -83,9 +83,9 @@ module _ (h T : List ℕ) where
   pub chosen-by : {d : Choice} → Chosen d ≡ decision h T
       → (badTable T ≡ false) × (first (decisionTests h (keys T)) ≡ 0) × (d ≡ choiceOf (headerChoice h (keys T))) × (d .index < length (keys T))
   unfolding decision
-  chosen-by {d} e = go (badTable T) refl (chosen-is (first (2 when badTable T ∷ decisionTests h (keys T))) (headerChoice h (keys T)) e)
-    where
-      go : (b : Bool) → badTable T ≡ b → (first (2 when b ∷ decisionTests h (keys T)) ≡ 0) × (d ≡ choiceOf (headerChoice h (keys T)))
-          → (badTable T ≡ false) × (first (decisionTests h (keys T)) ≡ 0) × (d ≡ choiceOf (headerChoice h (keys T))) × (d .index < length (keys T))
-      go true b c = absurd (let z = c .0 in omega arith)
-      go false b c = (b, c .0, c .1, rw (c .1) (choice-within h (keys T) (c .0)))
+  chosen-by {d} e =
+      let c = chosen-is (first (2 when badTable T ∷ decisionTests h (keys T))) (headerChoice h (keys T)) e in
+      let p = all-pass (2 when badTable T ∷ decisionTests h (keys T)) refl (c .0) in
+      let z : first (decisionTests h (keys T)) ≡ 0 = sym (first-next 2 (decisionTests h (keys T)) (p .0)) ∙ c .0 in
+      let within = choice-within h (keys T) (sym (first-next 5 (headingTests h (keys T)) (p .1 .0)) ∙ z) in
+      (p .0, z, c .1, rw (c .1) within)

@@ -7,21 +7,20 @@ use native.Mathlib.Nat.{sub-zero}
 use native.Mathlib.Omega.{arith}
 use lib.ListN.{length, take, drop}
 use borrow.Author.Tests.{lt-ltb, le-ltb, eqb-false, eq-eqb, ne-eqb, not-true, not-false}
-use Rattle.common.specs.First.{_when_, first, first-next, first-within, first-after}
+use Rattle.common.specs.First.{_when_, first, first-within, first-after}
 use Rattle.common.specs.Decided.{test-false}
 use Rattle.common.specs.Laid.{part-from}
 use Rattle.common.specs.Same.{same, decides-same}
 use Rattle.base64url_rules.specs.Base64url.{decode, strict}
 use Rattle.hmac.specs.Hmac.{HMACSHA256}
 use Rattle.hmac.specs.HmacLaws.{length-HMACSHA256}
-use Rattle.json_rules.specs.Rules.{longest}
 use Rattle.keytable_rules.specs.Key.{key}
 use Rattle.keytable_rules.specs.Table.{badTable, keys}
 use Rattle.jose_rules.specs.declared.Choice.{Choice}
 use Rattle.jose_rules.specs.declared.Decision.{Decision}
 use Rattle.jose_rules.specs.declared.Decision.the-variants.{Refused, Chosen}
 use Rattle.jose_rules.specs.HeaderTests.{headingTests}
-use Rattle.jose_rules.specs.Decision.{decisionTests, decisionWith}
+use Rattle.jose_rules.specs.Decision.{decisionWith}
 use Rattle.jose_rules.specs.DecisionLaws.{with-refused, with-chosen}
 use Rattle.jws_rules.specs.declared.Verified.{Verified}
 use Rattle.jws_rules.specs.Segments.{periods, front, back}
@@ -115,25 +114,21 @@ module _ (t T : List ℕ) {hb pb : List ℕ} {hr pr : ℕ} {o : Opened} (g : Ope
     passed : Clear (front t) (front (back t)) (back (back t)) hr pr
     passed = clear _ _ _ _ _ (sym (g .number) ∙ ok)
 
-    -- the header's rules are next; `decide_with` asks rule 5 once more
+    -- the header's rules are next
     next : first (laterTests t T hr pr) ≡ first (headerTests t T)
     next = first-after (segmentTests (front t) (front (back t)) (back (back t)) hr pr) (headerTests t T) refl (sym (g .number) ∙ ok)
-
-    once-more : first (decisionTests (headerOf t) (keys T)) ≡ first (headingTests (headerOf t) (keys T))
-    once-more = first-next 5 (headingTests (headerOf t) (keys T)) (le-ltb longest (length (headerOf t)) (passed .header-short))
 
     refused : {n : ℕ} {r : Verified} → Refused n ≡ decisionWith (headerOf t) (keys T) → r ≡ refusalOf n → Judged t T hb pb (first (laterTests t T hr pr)) r
     refused e f =
         let d = with-refused (headerOf t) (keys T) e in
-        let n = d .0 ∙ once-more in
-        judged-refusal (next ∙ first-within (headingTests (headerOf t) (keys T)) (macTests t T) (λ z. d .1 (n ∙ z)) ∙ sym n) (d .1) f
+        judged-refusal (next ∙ first-within (headingTests (headerOf t) (keys T)) (macTests t T) (λ z. d .1 (d .0 ∙ z)) ∙ sym (d .0)) (d .1) f
 
     chosen : {c : Choice} {r : Verified} → Chosen c ≡ decisionWith (headerOf t) (keys T) → r ≡ concluded o c (sentInput t) T
         → Judged t T hb pb (first (laterTests t T hr pr)) r
     chosen {c} e f =
         let d = with-chosen (headerOf t) (keys T) e in
         let mac = HMACSHA256 (secretOf T (choiceOf t T)) (sentInput t) in
-        let n : first (laterTests t T hr pr) ≡ first (macTests t T) = next ∙ first-after (headingTests (headerOf t) (keys T)) (macTests t T) refl (sym once-more ∙ d .0) in
+        let n : first (laterTests t T hr pr) ≡ first (macTests t T) = next ∙ first-after (headingTests (headerOf t) (keys T)) (macTests t T) refl (d .0) in
         let header : take (length (headerOf t)) hb ≡ headerOf t = rw (← g .header-length) (g .header-front ok) in
         let payload : take (length (payloadOf t)) pb ≡ payloadOf t = rw (← g .payload-length) (g .payload-front ok) in
         rw n

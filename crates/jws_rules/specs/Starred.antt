@@ -3,6 +3,8 @@ use mathlib.Core.Path.{_≡_, refl}
 use mathlib.Core.Bool.{true, false}
 use mathlib.Core.List.{List, []}
 use Prim.Native.Nat.{ℕ, suc}
+use Prim.Native.String.{String}
+use Rattle.common.specs.First.{first}
 use Rattle.common.specs.Same.{same}
 use Rattle.base64url_rules.specs.Base64url.{encode, decode, strict}
 use Rattle.base64url_rules.specs.Examples.{bytes as example, JC4wM, examples}
@@ -20,8 +22,13 @@ use Rattle.jose_rules.specs.declared.Decision.the-variants.{Refused}
 use Rattle.common.specs.Ascii.{ascii}
 use Rattle.jose_rules.specs.Names.{alg, kid, typ, cty, crit, fmt}
 use Rattle.jose_rules.specs.Members.{stringsIn}
+use Rattle.jose_rules.specs.HeaderTests.{headerChoice}
 use Rattle.jose_rules.specs.Tests.{lookup, missingOrWrong, anyOf, listed, criticalBroken}
-use Rattle.jose_rules.specs.Decision.{decisionWith}
+use Rattle.jose_rules.specs.Decision.{decided, decisionTests}
+
+-- what a header decides with these keys, by rules 5 and 7 to 14
+abbrev pub decides : String → List Key → Decision
+decides s ks = decided (first (decisionTests (ascii s) ks)) (headerChoice (ascii s) ks)
 
 pub record Starred : Type 0 where
   -- bytes 36 46 48 50 encode as `JC4wMg`
@@ -38,8 +45,8 @@ pub record Starred : Type 0 where
   pub comma-at-end : (k : ℕ) → answers "{\"alg\":\"HS256\",}" k ≡ RefusedMember 7
   pub low-surrogate : (k : ℕ) → answers "{\"alg\":\"HS256\",\"x\":\"\\uDD1E\"}" k ≡ RefusedMember 7
   -- 10, and 9, whatever the keys
-  pub format-unlisted : (ks : List Key) → decisionWith (ascii "{\"alg\":\"HS256\",\"fmt\":2}") ks ≡ Refused 10
-  pub format-exponent : (ks : List Key) → decisionWith (ascii "{\"alg\":\"HS256\",\"crit\":[\"fmt\"],\"fmt\":1e0}") ks ≡ Refused 9
+  pub format-unlisted : (ks : List Key) → decides "{\"alg\":\"HS256\",\"fmt\":2}" ks ≡ Refused 10
+  pub format-exponent : (ks : List Key) → decides "{\"alg\":\"HS256\",\"crit\":[\"fmt\"],\"fmt\":1e0}" ks ≡ Refused 9
   -- read (0 or 16 for every member), and it has one reading
   pub white-space :
       (answers "{\"alg\":\"HS256\",\"x\":[ ]}" 0 ≡ Text (place 2 5) (place 8 13)) × (answers "{\"alg\":\"HS256\",\"x\":[ ]}" 1 ≡ Array (place 16 17) (place 19 22))
@@ -47,7 +54,7 @@ pub record Starred : Type 0 where
   pub one-reading : (t u : Derivation) → bytes t ≡ ascii "{\"alg\":\"HS256\",\"x\":[ ]}" → bytes u ≡ ascii "{\"alg\":\"HS256\",\"x\":[ ]}" → readingOf t ≡ readingOf u
 
 pub starred : Starred
-unfolding decisionWith missingOrWrong criticalBroken listed anyOf lookup stringsIn integerOf allDigits after ascii alg kid typ cty crit fmt same among repeated names twice plain plainMembers
+unfolding missingOrWrong criticalBroken listed anyOf lookup stringsIn integerOf allDigits after ascii alg kid typ cty crit fmt same among repeated names twice plain plainMembers
     read readValue readChars readChar charLead escapeLeadOf isUnescaped1 pastNumber word valueLead skip within isWs isDigit isDigit19 isE isSign isHex allHex hex4
 starred =
     record {

@@ -4,7 +4,9 @@ use mathlib.Core.Path.{_≡_, sym, ap, _∙_}
 use mathlib.Core.Option.{some}
 use mir.Facts.{toZ-ofZ}
 use denote.Ref.{now}
-use Rattle.json_rules.specs.Answers.{checked}
+use Rattle.common.specs.First.{first}
+use Rattle.json_rules.specs.Rules.{deepest}
+use Rattle.json_rules.specs.Answers.{grammarTests}
 use Rattle.jose_rules.specs.HeaderTests.{reading}
 use Rattle.jose_rules.specs.Members.{valueOf}
 use Rattle.jose_rules.specs.Only.{absent}
@@ -15,15 +17,15 @@ use Rattle.jose.proofs.decide_with.Statement.{statement}
 use Rattle.jose.proofs.decide_with.Tie as tie
 
 -- the header is read, ..
-fine : (c : tie.Else1) → checked (now (c .before .before .before .before .args .header)) ≡ 0
-fine c = sym (c .before .check .ensures) ∙ c .if1 .left
+fine : (c : tie.Else1) → first (grammarTests deepest (now (c .before .before .before .before .args .header))) ≡ 0
+fine c = sym (c .before .check-text .ensures) ∙ c .if1 .left
 
 -- .. and its format is an integer
 number : (c : tie.After-known-told) → some (c .before .number .given .0 .0) ≡ format (reading (now (c .before .before .before .before .before .before .before .before .before .args .header)))
 number c = sym (ap valueOf (c .before .number .given .1)) ∙ c .before .before .before .format-of .ensures
 
 returns : tie.Need-returns
-returns c = decision-header _ _ (c .before .check .ensures) (c .if1 .taken)
+returns c = decision-header _ _ (c .before .check-text .ensures) (c .if1 .taken)
 
 known-members-requires : tie.Need-known-members-requires
 known-members-requires c κs = fine c
