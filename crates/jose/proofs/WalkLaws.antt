@@ -24,7 +24,7 @@ use Rattle.jose.specs.declared.members.Known.{Known}
 use Rattle.common.specs.Ascii.{ascii}
 use Rattle.jose_rules.specs.Names.{alg, kid, typ, cty, crit, fmt}
 use Rattle.jose_rules.specs.HeaderTests.{located}
-use Rattle.jose.specs.Slots.{inside, Which, theAlg, theKid, theTyp, theCty, theCrit, theFmt, name, slot, itemOf, Shows, Located, isThere, NoneKnown, takenBy, Taken, Noted, Walked}
+use Rattle.jose.specs.Slots.{inside, Which, theAlg, theKid, theTyp, theCty, theCrit, theFmt, name, slot, itemOf, Shows, Located, isThere, noneKnown, takenBy, Taken, Noted, Walked}
 use Rattle.jose.proofs.WordLaws.{isAscii, word-same}
 
 -- ONE SLOT
@@ -95,9 +95,20 @@ pub record Walking (h : List ℕ) (from p : ℕ) (m : Known) : Type 0 where
   pub is : (ms : LMembers) → MembersAt h from inside ms
       → (rest : LMembers) × MembersAt h p inside rest × ((w : Which) → Passed h (name w) (slot w m) rest ms)
 
-pub walk-start : {h : List ℕ} {from : ℕ} {m : Known} → NoneKnown m → Walking h from from m
+absent-in : {m : Known} → m ≡ noneKnown → (w : Which) → slot w m ≡ Absent
+absent-in e w = ap (λ (m : Known). slot w m) e ∙ none w
+  where
+    none : (w : Which) → slot w noneKnown ≡ Absent
+    none theAlg = refl
+    none theKid = refl
+    none theTyp = refl
+    none theCty = refl
+    none theCrit = refl
+    none theFmt = refl
+
+pub walk-start : {h : List ℕ} {from : ℕ} {m : Known} → m ≡ noneKnown → Walking h from from m
 walk-start {h} e = record {
-  is = λ ms at. (ms, at, λ w. subst (λ (s : Slot). Passed h (name w) s ms ms) (sym (e w)) (record { shown = none; shows = tt; is = refl }));
+  is = λ ms at. (ms, at, λ w. subst (λ (s : Slot). Passed h (name w) s ms ms) (sym (absent-in e w)) (record { shown = none; shows = tt; is = refl }));
 }
 
 module _ {h : List ℕ} {from p : ℕ} {m : Entry} {old new : Known} (g : Walking h from p old) (en : EntryAt h p inside m) (nt : Noted h p m old new) where
@@ -147,7 +158,7 @@ module _ {h : List ℕ} {r : End} (c : first (grammarTests deepest h) ≡ 0) (t 
             subst (λ (ms : LMembers). Shows h (slot k m) (itemOf (name k) ms)) (sym (top .2))
             (w .is (top .0) (subst (λ (x : End). MembersFrom h inside x (top .0)) e (top .1)) k)
 
-    pub located-none : r ≡ Bad → NoneKnown m → Located h m
+    pub located-none : r ≡ Bad → m ≡ noneKnown → Located h m
     unfolding itemOf
     located-none e n = record { stands = λ k. record { shows = shows k } }
       where
@@ -155,4 +166,4 @@ module _ {h : List ℕ} {r : End} (c : first (grammarTests deepest h) ≡ 0) (t 
         no-members = top .2 ∙ subst (λ (x : End). MembersFrom h inside x (top .0)) e (top .1)
 
         shows : (k : Which) → Shows h (slot k m) (itemOf (name k) (located h))
-        shows k = rw (n k, no-members) tt
+        shows k = rw (absent-in n k, no-members) tt

@@ -119,8 +119,8 @@ rawOf (Is k x) = record { start = x .start; length = sizeOf x }
 -- THE WALK OVER THE MEMBERS
 
 -- no slot shows a member
-abbrev pub NoneKnown : Known → Type 0
-NoneKnown m = (w : Which) → slot w m ≡ Absent
+abbrev pub noneKnown : Known
+noneKnown = record { alg = Absent; kid = Absent; typ = Absent; cty = Absent; crit = Absent; fmt = Absent }
 
 -- a slot after the member m, which has its name or not
 abbrev pub takenBy : Bool → Entry → Slot → Slot

@@ -5,7 +5,7 @@ ghost use lib.ListN.{length};
 ghost use Rattle.common.specs.First.{first};
 ghost use Rattle.json_rules.specs.Rules.{deepest};
 ghost use Rattle.json_rules.specs.Answers.{grammarTests};
-ghost use Rattle.jose.specs.Slots.{isThere, NoneKnown, Taken, Noted, Walked, Located};
+ghost use Rattle.jose.specs.Slots.{isThere, noneKnown, Taken, Noted, Walked, Located};
 use json_members::Entry;
 use json_members::Kind;
 use json_members::Place;
@@ -104,7 +104,7 @@ fn taken(header: &[u8], p: usize, m: Entry, word: &[u8], slot: Slot) -> Slot
 }
 
 fn none_known() -> Known
-    ensures { λ r. ⌜ NoneKnown r ⌝ }
+    ensures { λ r. ⌜ r ≡ noneKnown ⌝ }
 {
     Known {
         alg: Slot::Absent,

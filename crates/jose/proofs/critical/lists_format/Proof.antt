@@ -33,15 +33,21 @@ item-at-requires : tie.Need-item-at-requires
 item-at-requires c κs = let l = first-element _ _ (c .before .before .before .first-element .ensures) .within _ (c .before .p .given .1) in omega arith
 
 returns-3 : tie.Need-returns-3
-returns-3 c = lists-more (array (c .before .before .before .before .before .before .before .before .before .before .before)) (first (c .before .before .before .before .before .before .before)) (item-at _ _ _ (c .before .before .before .before .before .before .item-at .ensures)) (c .enum-told3 .given .1)
+returns-3 c =
+    let e = c .before .before .before .before .before .before in
+    lists-more (array (e .before .before .before .before .before)) (first (e .before)) (item-at _ _ _ (e .item-at .ensures)) (c .enum-told3 .given .1)
 
 returns-4 : tie.Need-returns-4
 unfolding ascii fmt
-returns-4 c = lists-one (array (c .before .before .before .before .before .before .before .before .before .before .before)) (first (c .before .before .before .before .before .before .before)) (item-at _ _ _ (c .before .before .before .before .before .before .item-at .ensures)) _ (c .before .before .before .text-is .ensures) (c .before .before .if1 .taken) (c .enum-told4 .given .1)
+returns-4 c =
+    let e = c .before .before .before .before .before .before in
+    lists-one (array (e .before .before .before .before .before)) (first (e .before)) (item-at _ _ _ (e .item-at .ensures)) _ (c .before .before .before .text-is .ensures) (c .before .before .if1 .taken) (c .enum-told4 .given .1)
 
 returns-5 : tie.Need-returns-5
 unfolding ascii fmt
-returns-5 c = lists-other (array (c .before .before .before .before .before .before .before .before .before)) (first (c .before .before .before .before .before)) (item-at _ _ _ (c .before .before .before .before .item-at .ensures)) _ (c .before .text-is .ensures) (c .if1 .left)
+returns-5 c =
+    let e = c .before .before .before .before .before in
+    lists-other (array (e .before .before .before .before)) (first (e)) (item-at _ _ _ (c .before .before .before .before .item-at .ensures)) _ (c .before .text-is .ensures) (c .if1 .left)
 
 pub lists-format-spec : {M : Type 1} → statement M
 lists-format-spec =

@@ -34,8 +34,9 @@ format-is c = c .small .ensures ∙ ap smallOf (toZ-ofZ (c .before .before .befo
 -- .. from 1 to 8
 abbrev Fits : tie.Else2 → Type 0
 Fits c =
-    let s = c .before .before .before .before .before .before .before .before .before .before .args in
-    let k = key (keys (now (s .table))) (c .before .before .before .before .before .index .given .0 .0) in
+    let e = c .before .before .before .before .before in
+    let s = e .before .before .before .before .before .args in
+    let k = key (keys (now (s .table))) (e .index .given .0 .0) in
     let f = c .before .small .result in
     (1 ≤ f) × (f ≤ 8) × (f ≡ natAbs (s .number)) × (lacking k (s .number) ≡ not (allowsFormat k f))
 

@@ -7,22 +7,34 @@ use Rattle.jose.proofs.kinds.missing_or_wrong.Statement.{statement}
 use Rattle.jose.proofs.kinds.missing_or_wrong.Tie as tie
 
 returns : tie.Need-returns
-returns c = alg-wrong (c .before .before .before .before .before .pre .0) (c .before .before .before .before .before .pre .1) (sym (c .before .before .before .there .ensures) ∙ c .before .before .if1 .taken) (sym (c .before .no-string .ensures) ∙ c .if2 .taken)
+returns c =
+    let e = c .before .before .before .before .before in
+    alg-wrong (e .pre .0) (e .pre .1) (sym (c .before .before .before .there .ensures) ∙ c .before .before .if1 .taken) (sym (c .before .no-string .ensures) ∙ c .if2 .taken)
 
 returns-2 : tie.Need-returns-2
-returns-2 c = kid-wrong (c .before .before .before .before .before .before .before .pre .0) (c .before .before .before .before .before .before .before .pre .1) (sym (c .before .before .before .before .before .there .ensures) ∙ c .before .before .before .before .if1 .taken) (sym (c .before .before .before .no-string .ensures) ∙ c .before .before .if2 .left) (sym (c .before .no-string2 .ensures) ∙ c .if3 .taken)
+returns-2 c =
+    let e = c .before .before .before .before .before in
+    kid-wrong (e .before .before .pre .0) (e .before .before .pre .1) (sym (e .there .ensures) ∙ c .before .before .before .before .if1 .taken) (sym (c .before .before .before .no-string .ensures) ∙ c .before .before .if2 .left) (sym (c .before .no-string2 .ensures) ∙ c .if3 .taken)
 
 returns-3 : tie.Need-returns-3
-returns-3 c = typ-wrong (c .before .before .before .before .before .before .before .before .before .pre .0) (c .before .before .before .before .before .before .before .before .before .pre .1) (sym (c .before .before .before .before .before .before .before .there .ensures) ∙ c .before .before .before .before .before .before .if1 .taken) (sym (c .before .before .before .before .before .no-string .ensures) ∙ c .before .before .before .before .if2 .left) (sym (c .before .before .before .no-string2 .ensures) ∙ c .before .before .if3 .left) (sym (c .before .no-string3 .ensures) ∙ c .if4 .taken)
+returns-3 c =
+    let e = c .before .before .before .before .before in
+    typ-wrong (e .before .before .before .before .pre .0) (e .before .before .before .before .pre .1) (sym (e .before .before .there .ensures) ∙ e .before .if1 .taken) (sym (e .no-string .ensures) ∙ c .before .before .before .before .if2 .left) (sym (c .before .before .before .no-string2 .ensures) ∙ c .before .before .if3 .left) (sym (c .before .no-string3 .ensures) ∙ c .if4 .taken)
 
 returns-4 : tie.Need-returns-4
-returns-4 c = cty-wrong (c .before .before .before .before .before .before .before .before .before .before .before .pre .0) (c .before .before .before .before .before .before .before .before .before .before .before .pre .1) (sym (c .before .before .before .before .before .before .before .before .before .there .ensures) ∙ c .before .before .before .before .before .before .before .before .if1 .taken) (sym (c .before .before .before .before .before .before .before .no-string .ensures) ∙ c .before .before .before .before .before .before .if2 .left) (sym (c .before .before .before .before .before .no-string2 .ensures) ∙ c .before .before .before .before .if3 .left) (sym (c .before .before .before .no-string3 .ensures) ∙ c .before .before .if4 .left) (sym (c .before .no-string4 .ensures) ∙ c .if5 .taken)
+returns-4 c =
+    let e = c .before .before .before .before .before .before in
+    let b = e .before .before .before .before .before in
+    cty-wrong (b .pre .0) (b .pre .1) (sym (e .before .before .before .there .ensures) ∙ e .before .before .if1 .taken) (sym (e .before .no-string .ensures) ∙ e .if2 .left) (sym (c .before .before .before .before .before .no-string2 .ensures) ∙ c .before .before .before .before .if3 .left) (sym (c .before .before .before .no-string3 .ensures) ∙ c .before .before .if4 .left) (sym (c .before .no-string4 .ensures) ∙ c .if5 .taken)
 
 no-strings-requires : tie.Need-no-strings-requires
 no-strings-requires c κs = c .before .before .before .before .before .before .before .before .before .before .before .pre .0 .stands theCrit
 
 returns-5 : tie.Need-returns-5
-returns-5 c = crit-left (c .before .before .before .before .before .before .before .before .before .before .before .before .pre .0) (c .before .before .before .before .before .before .before .before .before .before .before .before .pre .1) (sym (c .before .before .before .before .before .before .before .before .before .before .there .ensures) ∙ c .before .before .before .before .before .before .before .before .before .if1 .taken) (sym (c .before .before .before .before .before .before .before .before .no-string .ensures) ∙ c .before .before .before .before .before .before .before .if2 .left) (sym (c .before .before .before .before .before .before .no-string2 .ensures) ∙ c .before .before .before .before .before .if3 .left) (sym (c .before .before .before .before .no-string3 .ensures) ∙ c .before .before .before .if4 .left) (sym (c .before .before .no-string4 .ensures) ∙ c .before .if5 .left) (c .no-strings .ensures)
+returns-5 c =
+    let e = c .before .before .before .before .before .before in
+    let b = e .before .before .before .before .before .before in
+    crit-left (b .pre .0) (b .pre .1) (sym (e .before .before .before .before .there .ensures) ∙ e .before .before .before .if1 .taken) (sym (e .before .before .no-string .ensures) ∙ e .before .if2 .left) (sym (e .no-string2 .ensures) ∙ c .before .before .before .before .before .if3 .left) (sym (c .before .before .before .before .no-string3 .ensures) ∙ c .before .before .before .if4 .left) (sym (c .before .before .no-string4 .ensures) ∙ c .before .if5 .left) (c .no-strings .ensures)
 
 returns-6 : tie.Need-returns-6
 returns-6 c = alg-missing (c .before .before .before .pre .0) (c .before .before .before .pre .1) (sym (c .before .there .ensures) ∙ c .if1 .left)

@@ -25,7 +25,9 @@ strings-from-requires : tie.Need-strings-from-requires
 strings-from-requires c κs = first-element _ _ (c .before .before .before .first-element .ensures) .within _ (c .before .from .given .1)
 
 returns-2 : tie.Need-returns-2
-returns-2 c = no-strings-from (there (c .before .before .before .before .before .before .before)) (sym (c .before .before .before .before .before .before .is-array .ensures) ∙ c .before .before .before .before .before .if1 .taken) (first-as (c .before .before .before .before .first-element .ensures) (c .before .before .from .given .1)) (c .strings-from .ensures)
+returns-2 c =
+    let e = c .before .before .before .before .before in
+    no-strings-from (there (e .before .before)) (sym (e .before .is-array .ensures) ∙ e .if1 .taken) (first-as (c .before .before .before .before .first-element .ensures) (c .before .before .from .given .1)) (c .strings-from .ensures)
 
 returns-3 : tie.Need-returns-3
 returns-3 c = no-strings-empty (there (c .before .before .before .before .before)) (sym (c .before .before .before .before .is-array .ensures) ∙ c .before .before .before .if1 .taken) (first-as (c .before .before .first-element .ensures) (c .enum-told2 .given .1))

@@ -23,7 +23,9 @@ loop-less : tie.Need-loop-less Inv-loop μ-loop
 loop-less c = let l = item-at _ _ _ (c .before .before .before .before .before .item-at .ensures) .later _ (c .before .next .given .1) in omega arith
 
 loop-again : tie.Need-loop-again Inv-loop μ-loop
-loop-again c = (item-at _ _ _ (c .before .before .before .before .before .item-at .ensures) .later _ (c .before .next .given .1) .1, λ r w. c .before .before .before .before .before .before .loop .inv .1 r (strings-next (item-at _ _ _ (c .before .before .before .before .before .item-at .ensures)) (c .before .before .before .before .is-string .ensures) (c .before .before .before .if1 .taken) (c .before .next .given .1) w))
+loop-again c =
+    let e = c .before .before .before .before .before in
+    (item-at _ _ _ (e .item-at .ensures) .later _ (c .before .next .given .1) .1, λ r w. e .before .loop .inv .1 r (strings-next (item-at _ _ _ (e .item-at .ensures)) (c .before .before .before .before .is-string .ensures) (c .before .before .before .if1 .taken) (c .before .next .given .1) w))
 
 returns : tie.Need-returns Inv-loop μ-loop
 returns c = c .before .before .before .before .before .loop .inv .1 _ (strings-last (item-at _ _ _ (c .before .before .before .before .item-at .ensures)) (c .before .before .before .is-string .ensures) (c .before .before .if1 .taken) (c .enum-told .given .1))

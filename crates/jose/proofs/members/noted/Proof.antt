@@ -8,7 +8,9 @@ use Rattle.jose.proofs.members.noted.Tie as tie
 
 returns : tie.Need-returns
 unfolding ascii alg kid typ cty crit fmt
-returns c = noted (c .before .before .before .before .before .before .before .before .before .before .taken .ensures) (c .before .before .before .before .before .before .before .before .taken2 .ensures) (c .before .before .before .before .before .before .taken3 .ensures) (c .before .before .before .before .taken4 .ensures) (c .before .before .taken5 .ensures) (c .taken6 .ensures)
+returns c =
+    let e = c .before .before .before .before .before .before in
+    noted (e .before .before .before .before .taken .ensures) (e .before .before .taken2 .ensures) (e .taken3 .ensures) (c .before .before .before .before .taken4 .ensures) (c .before .before .taken5 .ensures) (c .taken6 .ensures)
 
 pub noted-spec : {M : Type 1} → statement M
 noted-spec =
