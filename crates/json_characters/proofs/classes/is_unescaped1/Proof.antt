@@ -11,7 +11,9 @@ returns-2 : tie.Need-returns-2
 returns-2 c = unescaped-2 _ (sym (c .before .between2 .ensures) ∙ c .if2 .taken)
 
 returns-3 : tie.Need-returns-3
-returns-3 c = c .between3 .ensures ∙ unescaped-3 _ (sym (c .before .before .before .before .between .ensures) ∙ c .before .before .before .if1 .left) (sym (c .before .before .between2 .ensures) ∙ c .before .if2 .left)
+returns-3 c =
+    let e = c .before .before .before in
+    c .between3 .ensures ∙ unescaped-3 _ (sym (e .before .between .ensures) ∙ e .if1 .left) (sym (c .before .before .between2 .ensures) ∙ c .before .if2 .left)
 
 pub is-unescaped1-spec : {M : Type 1} → statement M
 is-unescaped1-spec =

@@ -4,14 +4,8 @@ use Rattle.json_characters.proofs.EscapeLaws.{escape-u, escape-short, e
 use Rattle.json_characters.proofs.escapes.escape.Statement.{statement}
 use Rattle.json_characters.proofs.escapes.escape.Tie as tie
 
-shared-slice-read-b : tie.Need-shared-slice-read-b
-shared-slice-read-b c = c .before .if1 .taken
-
 returns : tie.Need-returns
 returns c = escape-u _ _ _ (c .before .before .before .if1 .taken) (c .before .if2 .taken) (c .unicode .ensures)
-
-short-requires : tie.Need-short-requires
-short-requires c κs = c .if2 .left
 
 returns-2 : tie.Need-returns-2
 returns-2 c = escape-short _ _ _ (c .before .before .before .if1 .taken) (c .short .ensures)
@@ -23,10 +17,8 @@ pub escape-spec : {M : Type 1} → statement M
 escape-spec =
     tie.close
     (tie.spec
-    shared-slice-read-b
-    (λ c. omega arith) (λ c κs. omega arith)
+    (λ c. omega arith) (λ c. omega arith) (λ c κs. omega arith)
     returns
-    (λ c. omega arith)
-    short-requires
+    (λ c. omega arith) (λ c κs. c .if2 .left)
     returns-2
     returns-3)

@@ -20,28 +20,32 @@ abbrev μ-loop : tie.MeasureT-loop
 loop-holds : tie.Need-loop-holds Inv-loop μ-loop
 loop-holds c = (omega arith, omega arith, λ r h. hex-digits _ _ r h)
 
-shared-slice-read-b : tie.Need-shared-slice-read-b Inv-loop μ-loop
-shared-slice-read-b c = c .before .if1 .taken
-
 mul-code : tie.Need-mul-code Inv-loop μ-loop
-mul-code c = omega (arith, room-small 65536 16 (c .before .before .before .before .before .loop .left) _ (c .before .before .before .before .loop-test .taken) (c .before .before .before .before .before .loop .inv .1))
+mul-code c =
+    let e = c .before .before .before .before in
+    omega (arith, room-small 65536 16 (e .before .loop .left) _ (e .loop-test .taken) (e .before .loop .inv .1))
 
 hex-val-requires : tie.Need-hex-val-requires Inv-loop μ-loop
 hex-val-requires c κs = sym (c .before .is-hex .ensures) ∙ c .if2 .taken
 
 add-code : tie.Need-add-code Inv-loop μ-loop
-add-code c = omega (arith, room-small 65536 16 (c .before .before .before .before .before .before .loop .left) _ (c .before .before .before .before .before .loop-test .taken) (c .before .before .before .before .before .before .loop .inv .1))
+add-code c =
+    let e = c .before .before .before .before .before in
+    omega (arith, room-small 65536 16 (e .before .loop .left) _ (e .loop-test .taken) (e .before .loop .inv .1))
 
 loop-again : tie.Need-loop-again Inv-loop μ-loop
 loop-again c =
-    let l = c .before .before .before .before .before .before .loop in (
+    let e = c .before .before .before .before in
+    let l = e .before .before .loop in (
       omega arith,
-      room-step 65536 16 (l .left) _ _ (c .before .before .before .before .before .loop-test .taken) (l .inv .1) (c .hex-val .ensures .1),
-      λ r h. l .inv .2 r (digits-more _ _ _ _ _ _ (l .left) _ _ r (c .before .before .before .before .before .loop-test .taken) (c .before .before .before .before .if1 .taken) (sym (c .before .before .is-hex .ensures) ∙ c .before .if2 .taken) (c .hex-val .ensures .0) h),
+      room-step 65536 16 (l .left) _ _ (e .before .loop-test .taken) (l .inv .1) (c .hex-val .ensures .1),
+      λ r h. l .inv .2 r (digits-more _ _ _ _ _ _ (l .left) _ _ r (e .before .loop-test .taken) (e .if1 .taken) (sym (c .before .before .is-hex .ensures) ∙ c .before .if2 .taken) (c .hex-val .ensures .0) h),
     )
 
 returns : tie.Need-returns Inv-loop μ-loop
-returns c = c .before .before .before .before .before .loop .inv .2 _ (digits-not _ _ _ _ _ _ _ _ (c .before .before .before .before .loop-test .taken) (c .before .before .before .if1 .taken) (sym (c .before .is-hex .ensures) ∙ c .if2 .left))
+returns c =
+    let e = c .before .before .before in
+    e .before .before .loop .inv .2 _ (digits-not _ _ _ _ _ _ _ _ (e .before .loop-test .taken) (e .if1 .taken) (sym (c .before .is-hex .ensures) ∙ c .if2 .left))
 
 returns-2 : tie.Need-returns-2 Inv-loop μ-loop
 returns-2 c = c .before .before .loop .inv .2 _ (digits-out _ _ _ _ _ _ _ _ (c .before .loop-test .taken) (c .if1 .left))
@@ -56,8 +60,7 @@ hex-spec =
     Inv-loop
     μ-loop
     loop-holds
-    shared-slice-read-b
-    (λ c κs. tt)
+    (λ c. omega arith) (λ c κs. tt)
     mul-code
     hex-val-requires
     add-code

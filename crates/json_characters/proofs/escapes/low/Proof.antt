@@ -19,7 +19,9 @@ returns-3 : tie.Need-returns-3
 returns-3 c = low-no-u _ _ _ (omega (arith, c .before .before .before .before .if1 .left)) (c .before .before .if2 .left) (c .if3 .taken)
 
 returns-4 : tie.Need-returns-4
-returns-4 c = low-no-hex _ _ _ (omega (arith, c .before .before .before .before .before .before .before .if1 .left)) (c .before .before .before .before .before .if2 .left) (c .before .before .before .if3 .left) (scanned readHex _ _ _ _ (c .before .before .hex .ensures) (c .enum-told .given .1))
+returns-4 c =
+    let e = c .before .before .before in
+    low-no-hex _ _ _ (omega (arith, e .before .before .before .before .if1 .left)) (e .before .before .if2 .left) (e .if3 .left) (scanned readHex _ _ _ _ (c .before .before .hex .ensures) (c .enum-told .given .1))
 
 sub-t14 : tie.Need-sub-t14
 sub-t14 c = pair-high _ (c .before .before .before .before .before .before .before .before .before .before .before .before .pre .1) .0
@@ -40,11 +42,17 @@ add-t18 c = omega (arith, pair-high _ (c .before .before .before .before .before
 
 returns-5 : tie.Need-returns-5
 unfolding isLow pairCode
-returns-5 c = low-is _ _ _ (omega (arith, c .before .before .before .before .before .before .before .before .before .before .if1 .left)) (c .before .before .before .before .before .before .before .before .if2 .left) (c .before .before .before .before .before .before .if3 .left) _ _ _ (scanned readHex _ _ _ _ (c .before .before .before .before .before .hex .ensures) (c .before .before .before .x .given .1)) (sym (c .before .between32 .ensures) ∙ c .if4 .taken) refl
+returns-5 c =
+    let e = c .before .before .before in
+    let k = e .before .before .before in
+    low-is _ _ _ (omega (arith, k .before .before .before .before .if1 .left)) (k .before .before .if2 .left) (k .if3 .left) _ _ _ (scanned readHex _ _ _ _ (e .before .before .hex .ensures) (e .x .given .1)) (sym (c .before .between32 .ensures) ∙ c .if4 .taken) refl
 
 returns-6 : tie.Need-returns-6
 unfolding isLow
-returns-6 c = low-not _ _ _ (omega (arith, c .before .before .before .before .before .before .before .before .before .before .if1 .left)) (c .before .before .before .before .before .before .before .before .if2 .left) (c .before .before .before .before .before .before .if3 .left) _ _ (scanned readHex _ _ _ _ (c .before .before .before .before .before .hex .ensures) (c .before .before .before .x .given .1)) (sym (c .before .between32 .ensures) ∙ c .if4 .left)
+returns-6 c =
+    let e = c .before .before .before in
+    let k = e .before .before .before in
+    low-not _ _ _ (omega (arith, k .before .before .before .before .if1 .left)) (k .before .before .if2 .left) (k .if3 .left) _ _ (scanned readHex _ _ _ _ (e .before .before .hex .ensures) (e .x .given .1)) (sym (c .before .between32 .ensures) ∙ c .if4 .left)
 
 pub low-spec : {M : Type 1} → statement M
 low-spec =

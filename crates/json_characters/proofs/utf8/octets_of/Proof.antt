@@ -13,10 +13,14 @@ returns-2 : tie.Need-returns-2
 returns-2 c = let e = two-octets _ _ _ (c .before .before .before .if1 .left) (c .before .before .if2 .taken) (c .before .octet2 .ensures) (c .tail-octet .ensures) in record { few = omega arith; long = ap length e; are = e }
 
 returns-3 : tie.Need-returns-3
-returns-3 c = let e = three-octets _ _ _ _ (c .before .before .before .before .if2 .left) (c .before .before .before .if3 .taken) (c .before .before .octet3 .ensures) (c .before .tail-octet2 .ensures) (c .tail-octet3 .ensures) in record { few = omega arith; long = ap length e; are = e }
+returns-3 c =
+    let k = c .before .before .before in
+    let e = three-octets _ _ _ _ (k .before .if2 .left) (k .if3 .taken) (c .before .before .octet3 .ensures) (c .before .tail-octet2 .ensures) (c .tail-octet3 .ensures) in record { few = omega arith; long = ap length e; are = e }
 
 returns-4 : tie.Need-returns-4
-returns-4 c = let e = four-octets _ _ _ _ _ (c .before .before .before .before .if3 .left) (c .before .before .before .octet4 .ensures) (c .before .before .tail-octet4 .ensures) (c .before .tail-octet5 .ensures) (c .tail-octet6 .ensures) in record { few = omega arith; long = ap length e; are = e }
+returns-4 c =
+    let k = c .before .before .before in
+    let e = four-octets _ _ _ _ _ (k .before .if3 .left) (k .octet4 .ensures) (c .before .before .tail-octet4 .ensures) (c .before .tail-octet5 .ensures) (c .tail-octet6 .ensures) in record { few = omega arith; long = ap length e; are = e }
 
 pub octets-of-spec : {M : Type 1} → statement M
 octets-of-spec =

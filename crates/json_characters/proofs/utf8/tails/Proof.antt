@@ -23,30 +23,34 @@ abbrev μ-loop : tie.MeasureT-loop
 loop-holds : tie.Need-loop-holds Inv-loop μ-loop
 loop-holds c = (c .before .pre .0, c .before .pre .2, c .before .pre .3, room-least (c .before .args .n) _ (c .before .pre .1) (c .before .pre .4), λ r h. h)
 
-shared-slice-read-c : tie.Need-shared-slice-read-c Inv-loop μ-loop
-shared-slice-read-c c = c .before .if1 .taken
-
 mul-code : tie.Need-mul-code Inv-loop μ-loop
-mul-code c = omega (arith, room-small 8388608 64 (c .before .before .before .before .before .loop .left) _ (c .before .before .before .before .loop-test .taken) (c .before .before .before .before .before .loop .inv .3))
+mul-code c =
+    let e = c .before .before .before .before in
+    omega (arith, room-small 8388608 64 (e .before .loop .left) _ (e .loop-test .taken) (e .before .loop .inv .3))
 
 sub-wide : tie.Need-sub-wide Inv-loop μ-loop
 sub-wide c = omega (arith, within-true _ _ _ (sym (c .before .between .ensures) ∙ c .if2 .taken))
 
 add-code : tie.Need-add-code Inv-loop μ-loop
-add-code c = omega (arith, room-small 8388608 64 (c .before .before .before .before .before .before .loop .left) _ (c .before .before .before .before .before .loop-test .taken) (c .before .before .before .before .before .before .loop .inv .3), tail-bits _ _ _ _ (sym (c .before .before .between .ensures) ∙ c .before .if2 .taken) (c .before .before .before .before .before .before .loop .inv .1) (c .before .before .before .before .before .before .loop .inv .2) (c .wide .ensures .0))
+add-code c =
+    let e = c .before .before .before .before .before in
+    omega (arith, room-small 8388608 64 (e .before .loop .left) _ (e .loop-test .taken) (e .before .loop .inv .3), tail-bits _ _ _ _ (sym (c .before .before .between .ensures) ∙ c .before .if2 .taken) (e .before .loop .inv .1) (e .before .loop .inv .2) (c .wide .ensures .0))
 
 loop-again : tie.Need-loop-again Inv-loop μ-loop
 loop-again c =
-    let l = c .before .before .before .before .before .before .loop in (
+    let e = c .before .before .before .before in
+    let l = e .before .before .loop in (
       omega arith,
       lit≤ tt,
       lit≤ tt,
-      room-step 8388608 64 (l .left) _ _ (c .before .before .before .before .before .loop-test .taken) (l .inv .3) (tail-bits _ _ _ _ (sym (c .before .before .between .ensures) ∙ c .before .if2 .taken) (c .before .before .before .before .before .before .loop .inv .1) (c .before .before .before .before .before .before .loop .inv .2) (c .wide .ensures .0)),
-      λ r h. l .inv .4 r (digits-more _ _ _ _ _ _ (l .left) _ _ r (c .before .before .before .before .before .loop-test .taken) (c .before .before .before .before .if1 .taken) (sym (c .before .before .between .ensures) ∙ c .before .if2 .taken) (c .wide .ensures .0) h),
+      room-step 8388608 64 (l .left) _ _ (e .before .loop-test .taken) (l .inv .3) (tail-bits _ _ _ _ (sym (c .before .before .between .ensures) ∙ c .before .if2 .taken) (e .before .before .loop .inv .1) (e .before .before .loop .inv .2) (c .wide .ensures .0)),
+      λ r h. l .inv .4 r (digits-more _ _ _ _ _ _ (l .left) _ _ r (e .before .loop-test .taken) (e .if1 .taken) (sym (c .before .before .between .ensures) ∙ c .before .if2 .taken) (c .wide .ensures .0) h),
     )
 
 returns : tie.Need-returns Inv-loop μ-loop
-returns c = c .before .before .before .before .before .loop .inv .4 _ (digits-not _ _ _ _ _ _ _ _ (c .before .before .before .before .loop-test .taken) (c .before .before .before .if1 .taken) (sym (c .before .between .ensures) ∙ c .if2 .left))
+returns c =
+    let e = c .before .before .before in
+    e .before .before .loop .inv .4 _ (digits-not _ _ _ _ _ _ _ _ (e .before .loop-test .taken) (e .if1 .taken) (sym (c .before .between .ensures) ∙ c .if2 .left))
 
 returns-2 : tie.Need-returns-2 Inv-loop μ-loop
 returns-2 c = c .before .before .loop .inv .4 _ (digits-out _ _ _ _ _ _ _ _ (c .before .loop-test .taken) (c .if1 .left))
@@ -61,8 +65,7 @@ tails-spec =
     Inv-loop
     μ-loop
     loop-holds
-    shared-slice-read-c
-    (λ c κs. tt)
+    (λ c. omega arith) (λ c κs. tt)
     mul-code
     sub-wide
     (λ c κs. tt)

@@ -19,8 +19,9 @@ abbrev μ-loop : tie.MeasureT-loop
 
 loop-again : tie.Need-loop-again Inv-loop μ-loop
 loop-again c =
-    let l = c .before .before .before .before .before in
-    mixed-on _ _ _ _ _ _ (text-plain _ _ (l .loop-test .taken) _ (sym (c .before .before .before .is-unescaped1 .ensures) ∙ c .before .before .if1 .taken) (c .before .wide .ensures .0)) (c .mixed .ensures)
+    let e = c .before .before .before in
+    let l = e .before .before in
+    mixed-on _ _ _ _ _ _ (text-plain _ _ (l .loop-test .taken) _ (sym (e .is-unescaped1 .ensures) ∙ c .before .before .if1 .taken) (c .before .wide .ensures .0)) (c .mixed .ensures)
     ∙ l .before .loop .inv
 
 returns : tie.Need-returns Inv-loop μ-loop
@@ -33,13 +34,16 @@ returns-2 c =
     mixed-none _ _ _ (text-wrong _ _ (l .loop-test .taken) (q .if2 .left) (scanned _ _ _ _ (c .before .before .char-at .ensures) (c .enum-told .given .1))) ∙ l .before .loop .inv
 
 loop-less-2 : tie.Need-loop-less-2 Inv-loop μ-loop
-loop-less-2 c = omega (arith, c .before .before .before .before .before .before .before .before .before .loop-test .taken, char-after _ _ _ _ (scanned _ _ _ _ (c .before .before .before .before .char-at .ensures) (c .before .before .c .given .1)))
+loop-less-2 c =
+    let e = c .before .before .before .before in
+    omega (arith, e .before .before .before .before .before .loop-test .taken, char-after _ _ _ _ (scanned _ _ _ _ (e .char-at .ensures) (c .before .before .c .given .1)))
 
 loop-again-2 : tie.Need-loop-again-2 Inv-loop μ-loop
 loop-again-2 c =
-    let q = c .before .before .before .before .before in
+    let e = c .before .before .before .before in
+    let q = e .before in
     let l = q .before .before .before .before in
-    mixed-on _ _ _ _ _ _ (text-step _ _ (l .loop-test .taken) (q .if2 .left) _ _ (scanned _ _ _ _ (c .before .before .before .before .char-at .ensures) (c .before .before .c .given .1))) (c .mixed2 .ensures)
+    mixed-on _ _ _ _ _ _ (text-step _ _ (l .loop-test .taken) (q .if2 .left) _ _ (scanned _ _ _ _ (e .char-at .ensures) (c .before .before .c .given .1))) (c .mixed2 .ensures)
     ∙ l .before .loop .inv
 
 returns-3 : tie.Need-returns-3 Inv-loop μ-loop

@@ -23,10 +23,16 @@ array-read-if2 : tie.Need-array-read-if2 Inv-loop μ-loop
 array-read-if2 c = omega (arith, c .before .before .before .before .before .octets-of .ensures .few)
 
 returns-2 : tie.Need-returns-2 Inv-loop μ-loop
-returns-2 c = octets-differ _ _ _ _ (c .before .before .before .loop .inv .1) (omega (arith, c .before .before .before .before .before .before .octets-of .ensures .long)) (omega arith) (λ e. c .if2 .taken (e ∙ (octet-at _ _ _ _ (c .before .before .before .before .before .before .octets-of .ensures .are) (c .before .before .loop-test .taken))))
+returns-2 c =
+    let k = c .before .before .before in
+    let l = k .before .before .before in
+    octets-differ _ _ _ _ (k .loop .inv .1) (omega (arith, l .octets-of .ensures .long)) (omega arith) (λ e. c .if2 .taken (e ∙ (octet-at _ _ _ _ (l .octets-of .ensures .are) (c .before .before .loop-test .taken))))
 
 loop-again : tie.Need-loop-again Inv-loop μ-loop
-loop-again c = (omega arith, passed-next _ _ _ _ (c .before .before .before .loop .inv .1) (omega (arith, c .before .before .before .before .before .before .octets-of .ensures .long)) (omega arith) (c .if2 .left ∙ sym (octet-at _ _ _ _ (c .before .before .before .before .before .before .octets-of .ensures .are) (c .before .before .loop-test .taken))))
+loop-again c =
+    let e = c .before .before .before in
+    let k = e .before .before .before in
+    (omega arith, passed-next _ _ _ _ (e .loop .inv .1) (omega (arith, k .octets-of .ensures .long)) (omega arith) (c .if2 .left ∙ sym (octet-at _ _ _ _ (k .octets-of .ensures .are) (c .before .before .loop-test .taken))))
 
 returns-3 : tie.Need-returns-3 Inv-loop μ-loop
 returns-3 c = octets-all _ _ _ _ (c .before .loop .inv .1) _ (omega arith) (c .before .before .before .before .octets-of .ensures .long) (omega arith)

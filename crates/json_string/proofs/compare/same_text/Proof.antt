@@ -18,10 +18,14 @@ abbrev μ-loop : tie.MeasureT-loop
 μ-loop s p t q i₀ j₀ i j = length s - i
 
 returns : tie.Need-returns Inv-loop μ-loop
-returns c = same-quote-i _ _ _ _ (c .before .before .before .before .loop-test .taken) (c .before .before .before .if1 .taken) (c .if2 .taken) ∙ c .before .before .before .before .before .loop .inv
+returns c =
+    let e = c .before .before .before in
+    same-quote-i _ _ _ _ (e .before .loop-test .taken) (e .if1 .taken) (c .if2 .taken) ∙ e .before .before .loop .inv
 
 returns-2 : tie.Need-returns-2 Inv-loop μ-loop
-returns-2 c = same-quote-j _ _ _ _ (c .before .before .before .before .before .loop-test .taken) (c .before .before .before .before .if1 .taken) (c .before .if2 .left) (c .if3 .taken) ∙ c .before .before .before .before .before .before .loop .inv
+returns-2 c =
+    let e = c .before .before .before .before in
+    same-quote-j _ _ _ _ (e .before .loop-test .taken) (e .if1 .taken) (c .before .if2 .left) (c .if3 .taken) ∙ e .before .before .loop .inv
 
 returns-3 : tie.Need-returns-3 Inv-loop μ-loop
 returns-3 c =
@@ -34,19 +38,25 @@ returns-4 c =
     same-none-j _ _ _ _ (text-wrong _ _ (e .before .before .before .before .if1 .taken) (e .if3 .left) (scanned _ _ _ _ (c .before .before .char-at2 .ensures) (c .enum-told2 .given .1))) ∙ e .before .before .before .before .before .before .loop .inv
 
 loop-less : tie.Need-loop-less Inv-loop μ-loop
-loop-less c = omega (arith, c .before .before .before .before .before .before .before .before .before .before .before .before .before .before .loop-test .taken, char-after _ _ _ _ (scanned _ _ _ _ (c .before .before .before .before .before .before .before .before .char-at .ensures) (c .before .before .before .before .before .before .x .given .1)))
+loop-less c =
+    let e = c .before .before .before .before .before .before in
+    omega (arith, e .before .before .before .before .before .before .before .before .loop-test .taken, char-after _ _ _ _ (scanned _ _ _ _ (e .before .before .char-at .ensures) (e .x .given .1)))
 
 loop-again : tie.Need-loop-again Inv-loop μ-loop
 loop-again c =
-    let e = c .before .before .before .before .before .before .before .before .before in
-    let x = scanned _ _ _ _ (c .before .before .before .before .before .before .before .before .char-at .ensures) (c .before .before .before .before .before .before .x .given .1) in
-    let y = scanned _ _ _ _ (c .before .before .before .before .char-at2 .ensures) (c .before .before .y .given .1) in
+    let k = c .before .before .before .before in
+    let l = k .before .before .before .before in
+    let e = l .before in
+    let x = scanned _ _ _ _ (l .char-at .ensures) (k .before .before .x .given .1) in
+    let y = scanned _ _ _ _ (k .char-at2 .ensures) (c .before .before .y .given .1) in
     same-step _ _ _ _ (e .before .before .before .before .before .loop-test .taken) (e .before .before .before .before .if1 .taken) (e .before .if2 .left) (e .if3 .left) _ _ _ _ x y (c .if4 .taken) ∙ e .before .before .before .before .before .before .loop .inv
 
 returns-5 : tie.Need-returns-5 Inv-loop μ-loop
 returns-5 c =
-    let e = c .before .before .before .before .before .before .before .before .before in
-    same-differ _ _ _ _ (e .before .before .before .before .before .loop-test .taken) (e .before .before .before .before .if1 .taken) (e .before .if2 .left) (e .if3 .left) _ _ _ _ (scanned _ _ _ _ (c .before .before .before .before .before .before .before .before .char-at .ensures) (c .before .before .before .before .before .before .x .given .1)) (scanned _ _ _ _ (c .before .before .before .before .char-at2 .ensures) (c .before .before .y .given .1)) (c .if4 .left) ∙ e .before .before .before .before .before .before .loop .inv
+    let k = c .before .before .before .before in
+    let l = k .before .before .before .before in
+    let e = l .before in
+    same-differ _ _ _ _ (e .before .before .before .before .before .loop-test .taken) (e .before .before .before .before .if1 .taken) (e .before .if2 .left) (e .if3 .left) _ _ _ _ (scanned _ _ _ _ (l .char-at .ensures) (k .before .before .x .given .1)) (scanned _ _ _ _ (k .char-at2 .ensures) (c .before .before .y .given .1)) (c .if4 .left) ∙ e .before .before .before .before .before .before .loop .inv
 
 returns-6 : tie.Need-returns-6 Inv-loop μ-loop
 returns-6 c = same-none-j _ _ _ _ (text-out _ _ (c .if1 .left)) ∙ c .before .before .loop .inv

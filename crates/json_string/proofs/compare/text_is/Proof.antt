@@ -20,29 +20,38 @@ abbrev μ-loop : tie.MeasureT-loop
 loop-holds : tie.Need-loop-holds Inv-loop μ-loop
 loop-holds c = (omega arith, refl)
 
-shared-slice-read-if1 : tie.Need-shared-slice-read-if1 Inv-loop μ-loop
-shared-slice-read-if1 c = c .before .loop-test .taken
-
 returns : tie.Need-returns Inv-loop μ-loop
-returns c = is-quote _ _ _ _ (c .before .before .loop-test .taken) (c .if1 .taken) (c .before .before .before .loop .inv .0) ∙ c .before .before .before .loop .inv .1
+returns c =
+    let e = c .before .before .before in
+    is-quote _ _ _ _ (c .before .before .loop-test .taken) (c .if1 .taken) (e .loop .inv .0) ∙ e .loop .inv .1
 
 returns-2 : tie.Need-returns-2 Inv-loop μ-loop
-returns-2 c = is-none _ _ _ (text-wrong _ _ (c .before .before .before .before .before .loop-test .taken) (c .before .before .before .if1 .left) (scanned _ _ _ _ (c .before .before .char-at .ensures) (c .enum-told .given .1))) ∙ c .before .before .before .before .before .before .loop .inv .1
+returns-2 c =
+    let e = c .before .before .before in
+    is-none _ _ _ (text-wrong _ _ (e .before .before .loop-test .taken) (e .if1 .left) (scanned _ _ _ _ (c .before .before .char-at .ensures) (c .enum-told .given .1))) ∙ e .before .before .before .loop .inv .1
 
 octets-end-requires : tie.Need-octets-end-requires Inv-loop μ-loop
 octets-end-requires c κs = (omega arith, char-most _ _ _ _ (scanned _ _ _ _ (c .before .before .before .char-at .ensures) (c .before .c .given .1)))
 
 returns-3 : tie.Need-returns-3 Inv-loop μ-loop
-returns-3 c = is-differ _ _ _ _ (c .before .before .before .before .before .before .before .before .before .loop-test .taken) (c .before .before .before .before .before .before .before .if1 .left) _ _ (scanned _ _ _ _ (c .before .before .before .before .before .before .char-at .ensures) (c .before .before .before .before .c .given .1)) (word-ended _ _ _ _ _ (c .before .before .octets-end .ensures) (c .enum-told2 .given .1)) ∙ c .before .before .before .before .before .before .before .before .before .before .loop .inv .1
+returns-3 c =
+    let e = c .before .before .before .before in
+    let k = e .before .before .before in
+    is-differ _ _ _ _ (k .before .before .loop-test .taken) (k .if1 .left) _ _ (scanned _ _ _ _ (e .before .before .char-at .ensures) (e .c .given .1)) (word-ended _ _ _ _ _ (c .before .before .octets-end .ensures) (c .enum-told2 .given .1)) ∙ k .before .before .before .loop .inv .1
 
 loop-less : tie.Need-loop-less Inv-loop μ-loop
-loop-less c = omega (arith, c .before .before .before .before .before .before .before .before .before .before .loop-test .taken, char-after _ _ _ _ (scanned _ _ _ _ (c .before .before .before .before .before .before .before .char-at .ensures) (c .before .before .before .before .before .c .given .1)))
+loop-less c =
+    let e = c .before .before .before .before .before in
+    omega (arith, e .before .before .before .before .before .loop-test .taken, char-after _ _ _ _ (scanned _ _ _ _ (e .before .before .char-at .ensures) (e .c .given .1)))
 
 loop-again : tie.Need-loop-again Inv-loop μ-loop
 loop-again c =
-    let x = scanned _ _ _ _ (c .before .before .before .before .before .before .before .char-at .ensures) (c .before .before .before .before .before .c .given .1) in
-    let o = word-ended _ _ _ _ _ (c .before .before .before .octets-end .ensures) (c .before .e .given .1) in
-    (word-after _ _ _ _ o, is-step _ _ _ _ (c .before .before .before .before .before .before .before .before .before .before .loop-test .taken) (c .before .before .before .before .before .before .before .before .if1 .left) _ _ x _ o ∙ c .before .before .before .before .before .before .before .before .before .before .before .loop .inv .1)
+    let e = c .before .before .before in
+    let k = e .before .before .before .before in
+    let l = k .before .before .before in
+    let x = scanned _ _ _ _ (k .char-at .ensures) (e .before .before .c .given .1) in
+    let o = word-ended _ _ _ _ _ (e .octets-end .ensures) (c .before .e .given .1) in
+    (word-after _ _ _ _ o, is-step _ _ _ _ (l .loop-test .taken) (k .before .if1 .left) _ _ x _ o ∙ l .before .loop .inv .1)
 
 returns-4 : tie.Need-returns-4 Inv-loop μ-loop
 returns-4 c = is-none _ _ _ (text-out _ _ (c .loop-test .left)) ∙ c .before .loop .inv .1
@@ -54,7 +63,7 @@ text-is-spec =
     Inv-loop
     μ-loop
     loop-holds
-    shared-slice-read-if1
+    (λ c. omega arith)
     returns
     (λ c κs. tt) (λ c. search needs) (λ c. search needs)
     returns-2

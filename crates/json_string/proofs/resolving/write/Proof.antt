@@ -25,62 +25,71 @@ abbrev μ-loop : tie.MeasureT-loop
 loop-holds : tie.Need-loop-holds Inv-loop μ-loop
 loop-holds c = (front-none _, λ r new h. h)
 
-shared-slice-read-if1 : tie.Need-shared-slice-read-if1 Inv-loop μ-loop
-shared-slice-read-if1 c = c .before .loop-test .taken
-
-same-length : tie.Need-same-length Inv-loop μ-loop
-same-length c = c .before .before .before .loop .inv .0 .same
-
 returns : tie.Need-returns Inv-loop μ-loop
-returns c = c .before .before .before .loop .inv .1 _ _ (writes-quote _ _ (c .before .before .loop-test .taken) _ _ _ (c .if1 .taken) (c .before .before .before .loop .inv .0))
-
-same-length-2 : tie.Need-same-length-2 Inv-loop μ-loop
-same-length-2 c = c .before .before .before .before .before .before .loop .inv .0 .same
+returns c =
+    let e = c .before .before .before in
+    e .loop .inv .1 _ _ (writes-quote _ _ (c .before .before .loop-test .taken) _ _ _ (c .if1 .taken) (e .loop .inv .0))
 
 returns-2 : tie.Need-returns-2 Inv-loop μ-loop
-returns-2 c = c .before .before .before .before .before .before .loop .inv .1 _ _ (writes-none _ _ _ _ _ (text-wrong _ _ (c .before .before .before .before .before .loop-test .taken) (c .before .before .before .if1 .left) (scanned _ _ _ _ (c .before .before .char-at .ensures) (c .enum-told .given .1))))
+returns-2 c =
+    let e = c .before .before .before in
+    e .before .before .before .loop .inv .1 _ _ (writes-none _ _ _ _ _ (text-wrong _ _ (e .before .before .loop-test .taken) (e .if1 .left) (scanned _ _ _ _ (c .before .before .char-at .ensures) (c .enum-told .given .1))))
 
 octets-of-requires : tie.Need-octets-of-requires Inv-loop μ-loop
 octets-of-requires c κs = char-most _ _ _ _ (scanned _ _ _ _ (c .before .before .before .char-at .ensures) (c .before .c .given .1))
 
 sub-if2 : tie.Need-sub-if2 Inv-loop μ-loop
-sub-if2 c = omega (arith, c .before .before .before .before .before .before .before .before .before .loop .inv .0 .fits, c .before .before .before .before .before .before .before .before .before .loop .inv .0 .same)
-
-same-length-3 : tie.Need-same-length-3 Inv-loop μ-loop
-same-length-3 c = c .before .before .before .before .before .before .before .before .before .before .loop .inv .0 .same
+sub-if2 c =
+    let e = c .before .before .before .before .before .before .before .before .before in
+    omega (arith, e .loop .inv .0 .fits, e .loop .inv .0 .same)
 
 returns-3 : tie.Need-returns-3 Inv-loop μ-loop
-returns-3 c = c .before .before .before .before .before .before .before .before .before .before .loop .inv .1 _ _ (writes-long _ _ (c .before .before .before .before .before .before .before .before .before .loop-test .taken) _ (c .before .before .before .before .before .before .before .if1 .left) _ _ _ _ (scanned _ _ _ _ (c .before .before .before .before .before .before .char-at .ensures) (c .before .before .before .before .c .given .1)) (too-long _ _ (octets (c .before .before .before .before .c .given .0 .0)) _ _ (c .before .before .before .before .before .before .before .before .before .before .loop .inv .0) (c .before .before .octets-of .ensures .long) (c .if2 .taken)))
+returns-3 c =
+    let e = c .before .before .before .before in
+    let k = e .before .before .before in
+    let l = k .before .before .before in
+    l .loop .inv .1 _ _ (writes-long _ _ (k .before .before .loop-test .taken) _ (k .if1 .left) _ _ _ _ (scanned _ _ _ _ (e .before .before .char-at .ensures) (e .c .given .1)) (too-long _ _ (octets (e .c .given .0 .0)) _ _ (l .loop .inv .0) (c .before .before .octets-of .ensures .long) (c .if2 .taken)))
 
 array-share-prefix-bytes : tie.Need-array-share-prefix-bytes Inv-loop μ-loop
-array-share-prefix-bytes c = prefix-fits _ _ _ (c .before .before .before .octets-of .ensures .are) (c .before .before .before .octets-of .ensures .long)
+array-share-prefix-bytes c =
+    let e = c .before .before .before in
+    prefix-fits _ _ _ (e .octets-of .ensures .are) (e .octets-of .ensures .long)
 
 slice-aggregate-copy-at : tie.Need-slice-aggregate-copy-at Inv-loop μ-loop
-slice-aggregate-copy-at c = c .before .before .before .before .octets-of .ensures .long ∙ sym (ap length (c .before .before .before .before .octets-of .ensures .are))
+slice-aggregate-copy-at c =
+    let e = c .before .before .before .before in
+    e .octets-of .ensures .long ∙ sym (ap length (e .octets-of .ensures .are))
 
 copy-at-requires : tie.Need-copy-at-requires Inv-loop μ-loop
-copy-at-requires c κs = omega (arith, c .before .before .before .before .octets-of .ensures .long, ap length (c .before .before .before .before .octets-of .ensures .are))
+copy-at-requires c κs =
+    let e = c .before .before .before .before in
+    omega (arith, e .octets-of .ensures .long, ap length (e .octets-of .ensures .are))
 
 add-n : tie.Need-add-n Inv-loop μ-loop
-add-n c = omega (arith, c .before .before .before .before .before .before .before .before .before .before .before .before .before .before .before .loop .inv .0 .fits, c .before .before .before .before .before .before .before .before .before .before .before .before .before .before .before .loop .inv .0 .same, c .before .before .before .before .before .before .before .before .before .before .before .before .before .before .before .before .before .before .good)
+add-n c =
+    let e = c .before .before .before .before .before .before .before .before .before .before .before .before .before .before .before in
+    omega (arith, e .loop .inv .0 .fits, e .loop .inv .0 .same, e .before .before .before .good)
 
 loop-less : tie.Need-loop-less Inv-loop μ-loop
-loop-less c = omega (arith, c .before .before .before .before .before .before .before .before .before .before .before .before .before .before .loop-test .taken, char-after _ _ _ _ (scanned _ _ _ _ (c .before .before .before .before .before .before .before .before .before .before .before .char-at .ensures) (c .before .before .before .before .before .before .before .before .before .c .given .1)))
+loop-less c =
+    let e = c .before .before .before .before .before .before .before .before .before in
+    omega (arith, e .before .before .before .before .before .loop-test .taken, char-after _ _ _ _ (scanned _ _ _ _ (e .before .before .char-at .ensures) (e .c .given .1)))
 
 loop-again : tie.Need-loop-again Inv-loop μ-loop
 loop-again c =
-    let l = c .before .before .before .before .before .before .before .before .before .before .before .before .before .before .before .loop in
-    let o = c .before .before .before .before .before .before .before .octets-of .ensures in
-    let x = scanned _ _ _ _ (c .before .before .before .before .before .before .before .before .before .before .before .char-at .ensures) (c .before .before .before .before .before .before .before .before .before .c .given .1) in
-    let b = octets (c .before .before .before .before .before .before .before .before .before .c .given .0 .0) in
+    let k = c .before .before .before .before .before in
+    let m = k .before .before .before .before in
+    let n = m .before .before .before in
+    let p = n .before .before .before in
+    let l = p .loop in
+    let o = k .before .before .octets-of .ensures in
+    let x = scanned _ _ _ _ (m .before .before .char-at .ensures) (m .c .given .1) in
+    let b = octets (m .c .given .0 .0) in
     let e = c .before .before .copy-at .ensures ∙ ap (λ (b : List ℕ). paste (l .out) (l .n) b (length b)) (o .are) in
-    let room : l .n + c .before .before .before .before .before .before .before .octets-of .result .count ≤ length (c .before .before .before .before .before .before .before .before .before .before .before .before .before .before .before .before .before .before .args .out .now) = omega (arith, c .before .before .before .before .before .if2 .left, l .inv .0 .fits, l .inv .0 .same) in (
+    let room : l .n + k .before .before .octets-of .result .count ≤ length (p .before .before .before .args .out .now) = omega (arith, k .if2 .left, l .inv .0 .fits, l .inv .0 .same) in (
       front-more _ _ _ b _ _ (l .inv .0) room (o .long) e,
-      λ r new h. l .inv .1 r new (writes-more _ _ (c .before .before .before .before .before .before .before .before .before .before .before .before .before .before .loop-test .taken) _ (c .before .before .before .before .before .before .before .before .before .before .before .before .if1 .left) _ new _ _ x r (front-writes _ _ _ b _ _ (l .inv .0) room (o .long) e _ _ new r h)),
+      λ r new h. l .inv .1 r new (writes-more _ _ (n .before .before .loop-test .taken) _ (n .if1 .left) _ new _ _ x r (front-writes _ _ _ b _ _ (l .inv .0) room (o .long) e _ _ new r h)),
     )
-
-same-length-4 : tie.Need-same-length-4 Inv-loop μ-loop
-same-length-4 c = c .before .loop .inv .0 .same
 
 returns-4 : tie.Need-returns-4 Inv-loop μ-loop
 returns-4 c = c .before .loop .inv .1 _ _ (writes-none _ _ _ _ _ (text-out _ _ (c .loop-test .left)))
@@ -92,15 +101,15 @@ write-spec =
     Inv-loop
     μ-loop
     loop-holds
-    shared-slice-read-if1
-    same-length
+    (λ c. search needs)
+    (λ c. search needs)
     returns
     (λ c κs. tt) (λ c. search needs) (λ c. search needs)
-    same-length-2
+    (λ c. search needs)
     returns-2
     octets-of-requires
     sub-if2
-    same-length-3
+    (λ c. search needs)
     returns-3
     array-share-prefix-bytes
     slice-aggregate-copy-at
@@ -108,5 +117,5 @@ write-spec =
     add-n
     loop-less
     loop-again
-    same-length-4
+    (λ c. search needs)
     returns-4)

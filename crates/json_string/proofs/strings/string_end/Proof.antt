@@ -32,13 +32,16 @@ returns-2 c =
     end-none _ _ (text-wrong _ _ (l .loop-test .taken) (q .if2 .left) (scanned _ _ _ _ (c .before .before .char-at .ensures) (c .enum-told .given .1))) ∙ l .before .loop .inv
 
 loop-less-2 : tie.Need-loop-less-2 Inv-loop μ-loop
-loop-less-2 c = omega (arith, c .before .before .before .before .before .before .before .before .loop-test .taken, char-after _ _ _ _ (scanned _ _ _ _ (c .before .before .before .char-at .ensures) (c .before .next .given .1)))
+loop-less-2 c =
+    let e = c .before .before .before in
+    omega (arith, e .before .before .before .before .before .loop-test .taken, char-after _ _ _ _ (scanned _ _ _ _ (e .char-at .ensures) (c .before .next .given .1)))
 
 loop-again-2 : tie.Need-loop-again-2 Inv-loop μ-loop
 loop-again-2 c =
-    let q = c .before .before .before .before in
+    let e = c .before .before .before in
+    let q = e .before in
     let l = q .before .before .before .before in
-    end-on _ _ _ _ (text-step _ _ (l .loop-test .taken) (q .if2 .left) _ _ (scanned _ _ _ _ (c .before .before .before .char-at .ensures) (c .before .next .given .1))) ∙ l .before .loop .inv
+    end-on _ _ _ _ (text-step _ _ (l .loop-test .taken) (q .if2 .left) _ _ (scanned _ _ _ _ (e .char-at .ensures) (c .before .next .given .1))) ∙ l .before .loop .inv
 
 returns-3 : tie.Need-returns-3 Inv-loop μ-loop
 returns-3 c = end-none _ _ (text-out _ _ (c .loop-test .left)) ∙ c .before .loop .inv
