@@ -8,9 +8,8 @@ use Rattle.jose_rules.specs.Names.{crit, fmt}
 use Rattle.jose.proofs.SlotLaws.{stands-as}
 use Rattle.jose.proofs.KindLaws.{first-as}
 use Rattle.jose.proofs.CriticalLaws.{Strings, strings-at, lists-absent, lists-empty, lists-other, lists-more, lists-one}
-use Rattle.json_members.specs.StepLaws.{first-element, item-at}
+use Rattle.json_members.specs.StepLaws.{item-at}
 use borrow.Author.Needs.{needs}
-use native.Mathlib.Omega.{arith}
 use Rattle.jose.proofs.critical.lists_format.Statement.{statement}
 use Rattle.jose.proofs.critical.lists_format.Tie as tie
 
@@ -28,9 +27,6 @@ first-element-requires c κs = array c .within
 
 returns-2 : tie.Need-returns-2
 returns-2 c = lists-empty (array (c .before .before .before)) (first-as (c .before .before .first-element .ensures) (c .enum-told2 .given .1))
-
-item-at-requires : tie.Need-item-at-requires
-item-at-requires c κs = let l = first-element _ _ (c .before .before .before .first-element .ensures) .within _ (c .before .p .given .1) in omega arith
 
 returns-3 : tie.Need-returns-3
 returns-3 c =
@@ -58,9 +54,7 @@ lists-format-spec =
     first-element-requires
     (λ c. search needs) (λ c. search needs)
     returns-2
-    (λ c. search needs)
-    item-at-requires
-    (λ c. search needs) (λ c κs. tt) (λ c. search needs) (λ c. search needs)
+    (λ c. search needs) (λ c κs. tt) (λ c. search needs) (λ c κs. tt) (λ c. search needs) (λ c. search needs)
     returns-3
     returns-4
     returns-5)

@@ -40,7 +40,7 @@ strings-from-spec =
     Inv-loop
     μ-loop
     loop-holds
-    (λ c. omega arith) (λ c κs. omega arith) (λ c κs. search needs) (λ c. search needs)
+    (λ c. omega arith) (λ c κs. tt) (λ c κs. search needs) (λ c. search needs)
     loop-less
     loop-again
     (λ c. search needs)
