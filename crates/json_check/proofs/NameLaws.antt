@@ -96,8 +96,8 @@ module _ {s a : List ℕ} where
       go : (n : List ℕ) → NameAt s q n → (b : List (List ℕ)) → Block s a (suc i) b → among n b ≡ false
       go n h (m ∷ c) (one-more x y) = ap₂ _||_ (sym (names-same s q s (getD a i 0) n m h x) ∙ t) (w .is n c y h)
 
-  pub without-all : {k i q : ℕ} → Without s a i q → i ≤ k → k ≤ i → Without s a k q
-  without-all {k} {i} {q} w l h = let e : i ≡ k = omega arith in subst (λ (j : ℕ). Without s a j q) e w
+  pub without-all : {k i q : ℕ} → (i ≤ k) × Without s a i q → k ≤ i → Without s a k q
+  without-all {k} {i} {q} w h = let e : i ≡ k = omega (arith, w .0) in subst (λ (j : ℕ). Without s a j q) e (w .1)
 
   -- a name equal to the name at q is among them
   found : {k : ℕ} {b : List (List ℕ)} → Block s a k b → (i q : ℕ) → i < k → (n : List ℕ) → NameAt s q n → sameText s q s (getD a i 0) ≡ true → among n b ≡ true

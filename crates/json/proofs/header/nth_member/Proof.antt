@@ -20,13 +20,21 @@ loop-holds : tie.Need-loop-holds Inv-loop μ-loop
 loop-holds c = (omega arith, λ r h. h)
 
 returns : tie.Need-returns Inv-loop μ-loop
-returns c = c .before .before .before .before .before .loop .inv .1 _ (law.pick-here _ (entry-at _ _ _ (c .before .before .before .before .entry-at .ensures)) (c .before .before .before .if1 .taken) (c .shown .ensures))
+returns c =
+    let b = c .before .before .before in
+    b .before .before .loop .inv .1 _ (law.pick-here _ (entry-at _ _ _ (b .before .entry-at .ensures)) (b .if1 .taken) (c .shown .ensures))
 
 loop-again : tie.Need-loop-again Inv-loop μ-loop
-loop-again c = (entry-at _ _ _ (c .before .before .before .before .entry-at .ensures) .later _ (c .before .next .given .1) .1, λ r h. c .before .before .before .before .before .loop .inv .1 r (law.pick-next _ (entry-at _ _ _ (c .before .before .before .before .entry-at .ensures)) _ (c .before .before .before .if1 .left) (c .before .next .given .1) h))
+loop-again c =
+    let n = c .before .next .given .1 in
+    let b = c .before .before .before in
+    let e = entry-at _ _ _ (b .before .entry-at .ensures) in
+    (e .later _ n .1, λ r h. b .before .before .loop .inv .1 r (law.pick-next _ e _ (b .if1 .left) n h))
 
 returns-2 : tie.Need-returns-2 Inv-loop μ-loop
-returns-2 c = c .before .before .before .before .loop .inv .1 _ (law.pick-none _ (entry-at _ _ _ (c .before .before .before .entry-at .ensures)) _ (c .before .before .if1 .left) (c .enum-told .given .1))
+returns-2 c =
+    let b = c .before .before in
+    b .before .before .loop .inv .1 _ (law.pick-none _ (entry-at _ _ _ (b .before .entry-at .ensures)) _ (b .if1 .left) (c .enum-told .given .1))
 
 pub nth-member-spec : {M : Type 1} → statement M
 nth-member-spec =

@@ -31,7 +31,9 @@ loop-holds : tie.Need-loop-holds Inv-loop μ-loop Inv-pairs μ-pairs
 loop-holds c = (omega arith, law.without-start _)
 
 same-by-fingerprint-requires : tie.Need-same-by-fingerprint-requires Inv-loop μ-loop Inv-pairs μ-pairs
-same-by-fingerprint-requires c κs = let t = c .before .before .loop-test .taken in let m = c .before .before .before .before .before .before .before .pre .1 in (c .before .before .before .before .fingerprint .ensures, m .fingerprints _ t)
+same-by-fingerprint-requires c κs =
+    let l = c .before .before in
+    (l .before .before .fingerprint .ensures, l .before .before .before .before .before .pre .1 .fingerprints _ (l .loop-test .taken))
 
 loop-again : tie.Need-loop-again Inv-loop μ-loop Inv-pairs μ-pairs
 loop-again c = (omega arith, law.without-next (c .before .before .before .before .before .loop .inv .1) (sym (c .before .same-by-fingerprint .ensures) ∙ c .if1 .left))
@@ -40,13 +42,23 @@ pairs-less : tie.Need-pairs-less Inv-loop μ-loop Inv-pairs μ-pairs
 pairs-less c = let k = entry-at _ _ _ (c .before .before .before .entry-at .ensures) .later _ (c .before .next .given .1) in omega (arith, k .0, k .1)
 
 pairs-again : tie.Need-pairs-again Inv-loop μ-loop Inv-pairs μ-pairs
-pairs-again c = (entry-at _ _ _ (c .before .before .before .entry-at .ensures) .later _ (c .before .next .given .1) .1, λ r h. c .before .before .before .before .before .before .before .pairs .inv .1 r (law.meets-next _ (law.without-all (c .before .before .before .before .before .loop .inv .1) (c .before .before .before .before .before .loop .inv .0) (c .before .before .before .before .loop-test .left)) (entry-at _ _ _ (c .before .before .before .entry-at .ensures)) (c .before .next .given .1) h))
+pairs-again c =
+    let n = c .before .next .given .1 in
+    let b = c .before .before .before in
+    let e = entry-at _ _ _ (b .entry-at .ensures) in
+    let l = b .before in
+    (e .later _ n .1, λ r h. l .before .before .before .pairs .inv .1 r (law.meets-next _ (law.without-all (l .before .loop .inv) (l .loop-test .left)) e n h))
 
 returns : tie.Need-returns Inv-loop μ-loop Inv-pairs μ-pairs
-returns c = c .before .before .before .before .before .before .pairs .inv .1 _ (law.meets-last _ (law.without-all (c .before .before .before .before .loop .inv .1) (c .before .before .before .before .loop .inv .0) (c .before .before .before .loop-test .left)) (entry-at _ _ _ (c .before .before .entry-at .ensures)) (c .enum-told .given .1))
+returns c =
+    let b = c .before .before in
+    let l = b .before in
+    l .before .before .before .pairs .inv .1 _ (law.meets-last _ (law.without-all (l .before .loop .inv) (l .loop-test .left)) (entry-at _ _ _ (b .entry-at .ensures)) (c .enum-told .given .1))
 
 returns-2 : tie.Need-returns-2 Inv-loop μ-loop Inv-pairs μ-pairs
-returns-2 c = c .before .before .before .before .before .before .before .pairs .inv .1 _ (law.meets-found _ _ _ _ (c .before .before .before .before .loop-test .taken) (sym (c .before .same-by-fingerprint .ensures) ∙ c .if1 .taken))
+returns-2 c =
+    let l = c .before .before .before .before in
+    l .before .before .before .pairs .inv .1 _ (law.meets-found _ _ _ _ (l .loop-test .taken) (sym (c .before .same-by-fingerprint .ensures) ∙ c .if1 .taken))
 
 pub block-meets-spec : {M : Type 1} → statement M
 block-meets-spec =

@@ -32,10 +32,10 @@ block-meets-requires : tie.Need-block-meets-requires Inv-loop μ-loop Inv-pairs 
 block-meets-requires c κs = let e = c .before .before .if1 .taken in let i = c .before .before .before .pairs .inv in (law.full e (i .4) .high, law.fingerprinted-full e (i .3))
 
 returns : tie.Need-returns Inv-loop μ-loop Inv-pairs μ-pairs
-returns c = law.filling-met _ (law.full (c .before .before .before .before .if1 .taken) (c .before .before .before .before .before .pairs .inv .4)) (c .before .block-meets .ensures) (c .if2 .taken)
+returns c = let b = c .before .before .before .before in law.filling-met _ (law.full (b .if1 .taken) (b .before .pairs .inv .4)) (c .before .block-meets .ensures) (c .if2 .taken)
 
 returns-2 : tie.Need-returns-2 Inv-loop μ-loop Inv-pairs μ-pairs
-returns-2 c = law.filling-past _ (law.full (c .before .before .before .before .if1 .taken) (c .before .before .before .before .before .pairs .inv .4)) (c .before .block-meets .ensures) (c .if2 .left) (omega arith)
+returns-2 c = let b = c .before .before .before .before in law.filling-past _ (law.full (b .if1 .taken) (b .before .pairs .inv .4)) (c .before .block-meets .ensures) (c .if2 .left) (omega arith)
 
 add-fingerprint : tie.Need-add-fingerprint Inv-loop μ-loop Inv-pairs μ-pairs
 add-fingerprint c = omega (arith, c .before .pairs .inv .4 .high)
@@ -51,19 +51,25 @@ loop-again c = (omega arith, law.without-next (c .before .before .before .loop .
 
 pairs-again : tie.Need-pairs-again Inv-loop μ-loop Inv-pairs μ-pairs
 pairs-again c =
-    let i = c .before .before .before .before .before .before .before .before .pairs .inv in (
+    let b = c .before .before .before in
+    let l = b .before in
+    let f = l .before .before in
+    let i = f .before .before .pairs .inv in (
       omega arith,
       simp length-set (i .1),
       simp length-set (i .2),
-      law.fingerprinted-next (i .3) _ _ (c .before .before .before .before .before .before .fingerprint .ensures) (omega (arith, i .1)) (omega (arith, i .2)),
-      law.filling-next _ (i .4) (law.without-all (c .before .before .before .before .before .loop .inv .1) (c .before .before .before .before .before .loop .inv .0) (c .before .before .before .before .loop-test .left)) (entry-at _ _ _ (c .before .before .before .entry-at .ensures)) (c .before .next .given .1) (omega (arith, i .1)),
+      law.fingerprinted-next (i .3) _ _ (f .fingerprint .ensures) (omega (arith, i .1)) (omega (arith, i .2)),
+      law.filling-next _ (i .4) (law.without-all (l .before .loop .inv) (l .loop-test .left)) (entry-at _ _ _ (b .entry-at .ensures)) (c .before .next .given .1) (omega (arith, i .1)),
     )
 
 returns-3 : tie.Need-returns-3 Inv-loop μ-loop Inv-pairs μ-pairs
-returns-3 c = law.filling-last _ (c .before .before .before .before .before .before .before .pairs .inv .4) (law.without-all (c .before .before .before .before .loop .inv .1) (c .before .before .before .before .loop .inv .0) (c .before .before .before .loop-test .left)) (entry-at _ _ _ (c .before .before .entry-at .ensures)) (c .enum-told .given .1)
+returns-3 c =
+    let b = c .before .before in
+    let l = b .before in
+    law.filling-last _ (l .before .before .before .before .pairs .inv .4) (law.without-all (l .before .loop .inv) (l .loop-test .left)) (entry-at _ _ _ (b .entry-at .ensures)) (c .enum-told .given .1)
 
 returns-4 : tie.Need-returns-4 Inv-loop μ-loop Inv-pairs μ-pairs
-returns-4 c = law.filling-found _ (c .before .before .before .before .before .before .pairs .inv .4) _ (c .before .before .loop-test .taken) (sym (c .before .same-by-fingerprint .ensures) ∙ c .if3 .taken)
+returns-4 c = let l = c .before .before in law.filling-found _ (l .before .before .before .before .pairs .inv .4) _ (l .loop-test .taken) (sym (c .before .same-by-fingerprint .ensures) ∙ c .if3 .taken)
 
 pub block-twice-spec : {M : Type 1} → statement M
 block-twice-spec =

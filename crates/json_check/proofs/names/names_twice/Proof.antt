@@ -21,16 +21,26 @@ loop-holds : tie.Need-loop-holds Inv-loop μ-loop
 loop-holds c = (omega arith, λ r h. h)
 
 returns : tie.Need-returns Inv-loop μ-loop
-returns c = c .before .before .before .loop .inv .1 _ (law.names-twice _ (law.searched _ (c .before .before .block-twice .ensures) (c .enum-told .given .1)))
+returns c = let b = c .before .before in b .before .loop .inv .1 _ (law.names-twice _ (law.searched _ (b .block-twice .ensures) (c .enum-told .given .1)))
 
 loop-less : tie.Need-loop-less Inv-loop μ-loop
-loop-less c = let k = c .before .before .before .before .before .before .block-twice .ensures .later _ (c .before .before .before .before .rest .given .1 ∙ ap Past (c .before .rest2 .given .1)) in omega (arith, k .0, k .1)
+loop-less c =
+    let b = c .before .before .before .before in
+    let k = b .before .before .block-twice .ensures .later _ (b .rest .given .1 ∙ ap Past (c .before .rest2 .given .1)) in
+    omega (arith, k .0, k .1)
 
 loop-again : tie.Need-loop-again Inv-loop μ-loop
-loop-again c = (c .before .before .before .before .before .before .block-twice .ensures .later _ (c .before .before .before .before .rest .given .1 ∙ ap Past (c .before .rest2 .given .1)) .1, λ r h. c .before .before .before .before .before .before .before .loop .inv .1 r (law.names-on _ (law.searched _ (c .before .before .before .before .before .before .block-twice .ensures) (c .before .before .before .before .rest .given .1 ∙ ap Past (c .before .rest2 .given .1))) h))
+loop-again c =
+    let b = c .before .before .before .before in
+    let t = b .before .before in
+    let e = b .rest .given .1 ∙ ap Past (c .before .rest2 .given .1) in
+    (t .block-twice .ensures .later _ e .1, λ r h. t .before .loop .inv .1 r (law.names-on _ (law.searched _ (t .block-twice .ensures) e) h))
 
 returns-2 : tie.Need-returns-2 Inv-loop μ-loop
-returns-2 c = c .before .before .before .before .before .before .loop .inv .1 _ (law.names-once _ (law.searched _ (c .before .before .before .before .before .block-twice .ensures) (c .before .before .before .rest .given .1 ∙ ap Past (c .enum-told2 .given .1))))
+returns-2 c =
+    let b = c .before .before .before in
+    let t = b .before .before in
+    t .before .loop .inv .1 _ (law.names-once _ (law.searched _ (t .block-twice .ensures) (b .rest .given .1 ∙ ap Past (c .enum-told2 .given .1))))
 
 pub names-twice-spec : {M : Type 1} → statement M
 names-twice-spec =

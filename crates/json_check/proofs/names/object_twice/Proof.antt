@@ -8,13 +8,18 @@ use Rattle.json_check.proofs.names.object_twice.Statement.{statement}
 use Rattle.json_check.proofs.names.object_twice.Tie as tie
 
 returns : tie.Need-returns
-returns c = law.object-closed _ (skips (c .before .before .before .skip-ws .ensures)) (c .before .before .if1 .taken) (c .if2 .taken)
+returns c = let b = c .before .before in law.object-closed _ (skips (b .before .skip-ws .ensures)) (b .if1 .taken) (c .if2 .taken)
 
 returns-2 : tie.Need-returns-2
-returns-2 c = law.object-twice _ (skips (c .before .before .before .before .before .before .before .before .skip-ws .ensures)) (law.answered _ (c .before .before .before .if3 .taken) (c .before .before .before .before .names-twice .ensures)) (ended (c .enum-told .given .1) (members-end _ (c .before .before .member-list .ensures)))
+returns-2 c =
+    let b = c .before .before in
+    let n = b .before .before in
+    law.object-twice _ (skips (n .before .before .before .before .skip-ws .ensures)) (law.answered _ (b .before .if3 .taken) (n .names-twice .ensures)) (ended (c .enum-told .given .1) (members-end _ (b .member-list .ensures)))
 
 returns-3 : tie.Need-returns-3
-returns-3 c = law.object-bad _ (skips (c .before .before .before .before .before .before .before .before .skip-ws .ensures)) (ended (c .enum-told2 .given .1) (members-end _ (c .before .before .member-list .ensures)))
+returns-3 c =
+    let b = c .before .before in
+    law.object-bad _ (skips (b .before .before .before .before .before .before .skip-ws .ensures)) (ended (c .enum-told2 .given .1) (members-end _ (b .member-list .ensures)))
 
 returns-4 : tie.Need-returns-4
 returns-4 c = law.object-once _ (skips (c .before .before .before .before .before .skip-ws .ensures)) (law.answered _ (c .if3 .left) (c .before .names-twice .ensures))

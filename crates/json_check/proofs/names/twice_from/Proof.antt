@@ -20,22 +20,41 @@ loop-holds : tie.Need-loop-holds Inv-loop μ-loop
 loop-holds c = (omega arith, omega arith, λ r h. h)
 
 loop-less : tie.Need-loop-less Inv-loop μ-loop
-loop-less c = let k = law.string-bounds _ _ (stringed _ _ (c .before .e .given .1) (c .before .before .before .string-end .ensures)) in omega (arith, k .0, k .1, c .before .before .before .before .before .before .loop-test .taken)
+loop-less c =
+    let b = c .before .before .before in
+    let k = law.string-bounds _ _ (stringed _ _ (c .before .e .given .1) (b .string-end .ensures)) in
+    omega (arith, k .0, k .1, b .before .before .before .loop-test .taken)
 
 loop-again : tie.Need-loop-again Inv-loop μ-loop
-loop-again c = (omega (arith, law.string-bounds _ _ (stringed _ _ (c .before .e .given .1) (c .before .before .before .string-end .ensures)) .0), law.string-bounds _ _ (stringed _ _ (c .before .e .given .1) (c .before .before .before .string-end .ensures)) .1, λ r h. c .before .before .before .before .before .before .before .loop .inv .2 r (law.scan-past _ _ _ (c .before .before .before .before .before .before .loop-test .taken) (c .before .before .before .before .if1 .taken) (stringed _ _ (c .before .e .given .1) (c .before .before .before .string-end .ensures)) h))
+loop-again c =
+    let b = c .before .before .before in
+    let t = b .before .before .before in
+    let e = stringed _ _ (c .before .e .given .1) (b .string-end .ensures) in
+    let k = law.string-bounds _ _ e in
+    (omega (arith, k .0), k .1, λ r h. t .before .loop .inv .2 r (law.scan-past _ _ _ (t .loop-test .taken) (b .before .if1 .taken) e h))
 
 returns : tie.Need-returns Inv-loop μ-loop
-returns c = c .before .before .before .before .before .before .loop .inv .2 _ (law.scan-broken _ _ _ (c .before .before .before .before .before .loop-test .taken) (c .before .before .before .if1 .taken) (stringed _ _ (c .enum-told .given .1) (c .before .before .string-end .ensures)))
+returns c =
+    let b = c .before .before in
+    let t = b .before .before .before in
+    t .before .loop .inv .2 _ (law.scan-broken _ _ _ (t .loop-test .taken) (b .before .if1 .taken) (stringed _ _ (c .enum-told .given .1) (b .string-end .ensures)))
 
 returns-2 : tie.Need-returns-2 Inv-loop μ-loop
-returns-2 c = c .before .before .before .before .before .before .loop .inv .2 _ (law.scan-found _ _ _ (c .before .before .before .before .before .loop-test .taken) (c .before .before .if2 .taken) (c .before .object-twice .ensures) (c .if3 .taken))
+returns-2 c =
+    let b = c .before .before in
+    let t = b .before .before .before in
+    t .before .loop .inv .2 _ (law.scan-found _ _ _ (t .loop-test .taken) (b .if2 .taken) (c .before .object-twice .ensures) (c .if3 .taken))
 
 loop-again-2 : tie.Need-loop-again-2 Inv-loop μ-loop
-loop-again-2 c = (omega arith, omega arith, λ r h. c .before .before .before .before .before .before .loop .inv .2 r (law.scan-object _ _ _ (c .before .before .before .before .before .loop-test .taken) (c .before .before .if2 .taken) (c .before .object-twice .ensures) (c .if3 .left) h))
+loop-again-2 c =
+    let b = c .before .before in
+    let t = b .before .before .before in
+    (omega arith, omega arith, λ r h. t .before .loop .inv .2 r (law.scan-object _ _ _ (t .loop-test .taken) (b .if2 .taken) (c .before .object-twice .ensures) (c .if3 .left) h))
 
 loop-again-3 : tie.Need-loop-again-3 Inv-loop μ-loop
-loop-again-3 c = (omega arith, omega arith, λ r h. c .before .before .before .before .loop .inv .2 r (law.scan-other _ _ _ (c .before .before .before .loop-test .taken) (c .before .if1 .left) (c .if2 .left) h))
+loop-again-3 c =
+    let t = c .before .before .before in
+    (omega arith, omega arith, λ r h. t .before .loop .inv .2 r (law.scan-other _ _ _ (t .loop-test .taken) (c .before .if1 .left) (c .if2 .left) h))
 
 returns-3 : tie.Need-returns-3 Inv-loop μ-loop
 returns-3 c = c .before .loop .inv .2 _ (law.scan-out _ (c .loop-test .left))
