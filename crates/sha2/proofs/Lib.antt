@@ -1,4 +1,3 @@
-pub mod ListLaws
 pub mod PaddedLaws
 pub mod ValueLaws
 pub mod FinishLaws

@@ -5,13 +5,16 @@ use Prim.Native.Nat.{ℕ, zero, suc, _+_, _-_, _*_, _/_, _%_, _^_, _≤_, _<_}
 use native.Mathlib.Nat.{zero-add, mul-assoc, pow-succ', mod-add-div}
 use native.Mathlib.Omega.{arith}
 use lib.ListN.{length, take, drop, set, replicate, length-append, length-replicate}
-use lib.Seq.{paste, take-length, take-append-add, set-append-seam}
+use lib.Seq.{paste, take-length, take-append-add, take-paste, take-all, set-append-seam}
 use Rattle.common.specs.BigEndian.{bigEndian, length-bigEndian}
 use Rattle.common.specs.Buffer.{take-replicate, drop-replicate}
 use Rattle.sha2_compression.specs.Parameters.{Parameters, sha-256}
 use Rattle.sha2.specs.Hash.{lengthBytes, zeros, padding}
 use Rattle.sha2.specs.PaddingLaws.{length-padding}
-use Rattle.sha2.proofs.ListLaws.{copied}
+
+-- the first `at` elements of an array are l: with a list b copied after them they are l and b
+pub copied : (l d b : List ℕ) (at n : ℕ) → length b ≡ n → at ≤ length d → take at d ≡ l → take (at + n) (paste d at b n) ≡ l ++ b
+copied l d b at n p h e = take-paste d at b n h (omega arith) ∙ rw (e, take-all n b (omega arith))
 
 -- only the lowest n bytes of a number count
 lowest : (n x z : ℕ) → bigEndian n (x + 256 ^ n * z) ≡ bigEndian n x

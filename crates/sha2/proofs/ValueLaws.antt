@@ -11,7 +11,7 @@ use Rattle.common.specs.BigEndian.{bigEndian, length-bigEndian}
 use Rattle.sha2_compression.specs.Parameters.{sha-256}
 use Rattle.sha2_compression.specs.Compression.{compressed}
 use Rattle.sha2.specs.Hash.{hashValue, wordBytes}
-use Rattle.sha2.proofs.ListLaws.{copied}
+use Rattle.sha2.proofs.PaddedLaws.{copied}
 
 -- one block more, at the byte `at`
 pub one-block : (h m : List ℕ) (at : ℕ) {v r : List ℕ} → at % 64 ≡ 0 → v ≡ hashValue sha-256 h m (at / 64)

@@ -7,8 +7,7 @@ use native.Mathlib.Omega.{arith}
 use lib.ListN.{length, getD, take, set}
 use Rattle.sha2_compression.specs.Parameters.{Parameters}
 use Rattle.sha2_compression.specs.Compression.{schedule, round, rounds, sums}
-use Rattle.sha2_compression.proofs.ListLaws.{stored}
-use Rattle.sha2_compression.proofs.ScheduleLaws.{word-in}
+use Rattle.sha2_compression.proofs.ScheduleLaws.{stored, word-in}
 
 module _ (P : Parameters) (h : List ℕ) where
   one-more : (W : List ℕ) (t u : ℕ) {v r : List ℕ} → u ≡ t + 1 → v ≡ rounds P h W t → r ≡ round P v (getD (P .K) t 0) (getD W t 0) → r ≡ rounds P h W u

@@ -1,17 +1,20 @@
 -- The words of a schedule, as the code makes and reads them.
 use mathlib.Core.Path.{_≡_, refl, ap, sym, _∙_}
 use mathlib.Core.Logic.{⊎-elim}
-use mathlib.Core.List.{List, [], _∷_}
+use mathlib.Core.List.{List, [], _∷_, _++_}
 use Prim.Native.Nat.{ℕ, zero, suc, _+_, _-_, _≤_, _<_}
 use native.Mathlib.Nat.{not-suc-le-zero, eq-or-lt-of-le, le-of-suc-le-suc}
 use native.Mathlib.Numerals.{add-one}
 use native.Mathlib.Omega.{arith}
 use borrow.Author.Tests.{lt-ltb, le-ltb}
 use lib.ListN.{length, getD, take, set, length-append, List·getD-append}
-use lib.Seq.{getD-take, getD-at}
+use lib.Seq.{getD-take, getD-at, take-suc-set}
 use Rattle.sha2_compression.specs.Parameters.{Parameters}
 use Rattle.sha2_compression.specs.Compression.{M, laterWord, nextWord, schedule}
-use Rattle.sha2_compression.proofs.ListLaws.{stored}
+
+-- the first i elements of an array are l: with x stored after them they are l and x
+pub stored : (l r : List ℕ) (i x : ℕ) → i < length r → take i r ≡ l → take (i + 1) (set r i x) ≡ l ++ (x ∷ [])
+stored l r i x h e = rw (add-one, take-suc-set, e)
 
 module _ (P : Parameters) (b : List ℕ) where
   pub block-word : (w : List ℕ) (t : ℕ) → t < 16 → nextWord P b w t ≡ M P b t

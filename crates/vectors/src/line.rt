@@ -67,22 +67,24 @@ fn digest(args: &[u8]) {
     if check::same(text::first(args), b"REPEAT") {
         repeated(text::rest(args));
     } else {
-        let mut message = [0u8; 256];
-        let n = text::unhex(text::first(args), &mut message);
-        let d = sha2::sha256(&message[0..n]);
-        text::put_hex(&message[0..n]);
-        put_last(&d);
+        hashed(args);
     }
 }
 
+fn hashed(args: &[u8]) {
+    let mut message = [0u8; 256];
+    let n = text::unhex(text::first(args), &mut message);
+    let d = sha2::sha256(&message[0..n]);
+    text::put_hex(&message[0..n]);
+    put_last(&d);
+}
+
 fn repeated(args: &[u8]) {
-    let mut byte = [0u8; 1];
-    let n = text::decimal(text::first(args));
+    let count = text::first(args);
     let x = text::first(text::rest(args));
-    text::unhex(x, &mut byte);
-    let d = repeat::sha256(n, byte[0]);
+    let d = repeat::written(count, x);
     io::write_all(1, b"REPEAT ");
-    io::write_all(1, text::first(args));
+    io::write_all(1, count);
     io::write_all(1, b" ");
     io::write_all(1, x);
     put_last(&d);
@@ -94,11 +96,15 @@ fn mac(args: &[u8]) {
     let mut message = [0u8; 256];
     let n = text::unhex(text::first(args), &mut key);
     let m = text::unhex(text::first(text::rest(args)), &mut message);
-    let d = hmac::hmac_sha256(&key[0..n], &message[0..m]);
+    put_mac(&key[0..n], &message[0..m]);
+}
+
+fn put_mac(key: &[u8], message: &[u8]) {
+    let d = hmac::hmac_sha256(key, message);
     io::write_all(1, b"hmac-sha256 ");
-    text::put_hex(&key[0..n]);
+    text::put_hex(key);
     io::write_all(1, b" ");
-    text::put_hex(&message[0..m]);
+    text::put_hex(message);
     put_last(&d);
 }
 

@@ -2,7 +2,7 @@
 use crate::text;
 ghost use Prim.Native.Nat.{_≤_};
 
-pub fn sha256(count: usize, x: u8) -> [u8; 32]
+fn sha256(count: usize, x: u8) -> [u8; 32]
     requires { ⌜ count ≤ 1000000 ⌝ }
 {
     let k = sha2::constants();
@@ -17,4 +17,12 @@ pub fn sha256(count: usize, x: u8) -> [u8; 32]
     }
     let rest = count - done;
     sha2::hash_after(state, &k, done, &part[0..rest])
+}
+
+// .. with the count and the byte as a line writes them.
+pub fn written(count: &[u8], x: &[u8]) -> [u8; 32] {
+    let mut byte = [0u8; 1];
+    text::unhex(x, &mut byte);
+    let n = text::decimal(count);
+    sha256(n, byte[0])
 }

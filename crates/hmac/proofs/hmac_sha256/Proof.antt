@@ -4,14 +4,11 @@ use Rattle.hmac.specs.Hmac.{hmac}
 use Rattle.hmac.proofs.hmac_sha256.Statement.{statement}
 use Rattle.hmac.proofs.hmac_sha256.Tie as tie
 
-returns : tie.Need-returns
-unfolding hmac
-returns c = cc
-
 pub hmac-sha256-spec : {M : Type 1} → statement M
+unfolding hmac
 hmac-sha256-spec =
     tie.close
     (tie.spec
     (λ c κs. search needs) (λ c κs. search needs) (λ c κs. search needs) (λ c κs. search needs) (λ c κs. search needs)
     (λ c. search needs) (λ c κs. search needs)
-    returns)
+    (λ c. cc))

@@ -4,9 +4,6 @@ use Rattle.sha2_compression.specs.Parameters.{H0}
 use Rattle.sha2.proofs.initial.Statement.{statement}
 use Rattle.sha2.proofs.initial.Tie as tie
 
-returns : tie.Need-returns
-unfolding H0
-returns c = refl
-
 pub initial-spec : {M : Type 1} → statement M
-initial-spec = tie.close (tie.spec returns)
+unfolding H0
+initial-spec = tie.close (tie.spec (λ c. refl))

@@ -5,9 +5,6 @@ use Rattle.common.specs.BigEndian.{bigEndian}
 use Rattle.sha2.proofs.digest.four_bytes.Statement.{statement}
 use Rattle.sha2.proofs.digest.four_bytes.Tie as tie
 
-returns : tie.Need-returns
-unfolding bigEndian
-returns c = refl
-
 pub four-bytes-spec : {M : Type 1} → statement M
-four-bytes-spec = tie.close (tie.spec (λ c. search needs) (λ c. search needs) (λ c. search needs) (λ c. search needs) returns)
+unfolding bigEndian
+four-bytes-spec = tie.close (tie.spec (λ c. search needs) (λ c. search needs) (λ c. search needs) (λ c. search needs) (λ c. refl))

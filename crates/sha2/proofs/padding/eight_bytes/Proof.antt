@@ -5,11 +5,8 @@ use Rattle.common.specs.BigEndian.{bigEndian}
 use Rattle.sha2.proofs.padding.eight_bytes.Statement.{statement}
 use Rattle.sha2.proofs.padding.eight_bytes.Tie as tie
 
-returns : tie.Need-returns
-unfolding bigEndian
-returns c = refl
-
 pub eight-bytes-spec : {M : Type 1} → statement M
+unfolding bigEndian
 eight-bytes-spec =
     tie.close
-    (tie.spec (λ c. search needs) (λ c. search needs) (λ c. search needs) (λ c. search needs) (λ c. search needs) (λ c. search needs) (λ c. search needs) (λ c. search needs) returns)
+    (tie.spec (λ c. search needs) (λ c. search needs) (λ c. search needs) (λ c. search needs) (λ c. search needs) (λ c. search needs) (λ c. search needs) (λ c. search needs) (λ c. refl))

@@ -30,16 +30,18 @@ loop-holds c = (omega arith, omega arith, omega arith, c .block-words .ensures, 
 
 loop-again : tie.Need-loop-again Inv-loop μ-loop Inv-loop2 μ-loop2
 loop-again c =
-    let l = c .before .before .before .before .before .before .before .loop in
-    let a = c .before .before .before .before .before .before .before .before .before .before .args in
-    let b = a .b .now in
-    let x = c .before .before .later-word .result in
-    let w1 = one-later sha-256 b (l .w) (l .t + 16) (l .t + 17) x (omega arith) (omega arith) (omega arith) (l .inv .3) (c .before .before .later-word .ensures) in (
+    let later = c .before .before in
+    let two = later .before .before in
+    let l = two .before .before .before .loop in
+    let p = two .before .before .before .before .before .before in
+    let b = p .args .b .now in
+    let x = later .later-word .result in
+    let w1 = one-later sha-256 b (l .w) (l .t + 16) (l .t + 17) x (omega arith) (omega arith) (omega arith) (l .inv .3) (later .later-word .ensures) in (
       omega arith,
       omega arith,
       simp length-set (l .inv .2),
       one-later sha-256 b (set (l .w) (l .t + 16) x) (l .t + 17) (l .t + 2 + 16) (c .later-word2 .result) (omega arith) (omega arith) (simp length-set (omega arith)) w1 (c .later-word2 .ensures),
-      two-more sha-256 (a .s) b (a .k .now) (l .w) (l .t) (l .t + 16) 64 (c .before .before .before .before .before .before .before .before .before .before .pre .0) (omega arith) (omega arith) (l .inv .3) (l .inv .4) (c .before .before .before .before .two-rounds .ensures),
+      two-more sha-256 (p .args .s) b (p .args .k .now) (l .w) (l .t) (l .t + 16) 64 (p .pre .0) (omega arith) (omega arith) (l .inv .3) (l .inv .4) (two .two-rounds .ensures),
     )
 
 loop2-holds : tie.Need-loop2-holds Inv-loop μ-loop Inv-loop2 μ-loop2

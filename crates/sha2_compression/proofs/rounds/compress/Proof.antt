@@ -4,9 +4,6 @@ use Rattle.sha2_compression.specs.Compression.{compressed}
 use Rattle.sha2_compression.proofs.rounds.compress.Statement.{statement}
 use Rattle.sha2_compression.proofs.rounds.compress.Tie as tie
 
-returns : tie.Need-returns
-unfolding compressed
-returns c = cc
-
 pub compress-spec : {M : Type 1} → statement M
-compress-spec = tie.close (tie.spec (λ c κs. search needs) (λ c κs. search needs) returns)
+unfolding compressed
+compress-spec = tie.close (tie.spec (λ c κs. search needs) (λ c κs. search needs) (λ c. cc))

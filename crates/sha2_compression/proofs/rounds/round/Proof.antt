@@ -4,15 +4,12 @@ use Rattle.sha2_compression.specs.Compression.{round}
 use Rattle.sha2_compression.proofs.rounds.round.Statement.{statement}
 use Rattle.sha2_compression.proofs.rounds.round.Tie as tie
 
-returns : tie.Need-returns
-unfolding round
-returns c = cc
-
 pub round-spec : {M : Type 1} → statement M
+unfolding round
 round-spec =
     tie.close
     (tie.spec
     (λ c κs. search needs) (λ c κs. search needs) (λ c κs. search needs) (λ c. search needs) (λ c. search needs)
     (λ c. search needs) (λ c. search needs) (λ c κs. search needs) (λ c. search needs) (λ c. search needs)
     (λ c. search needs)
-    returns)
+    (λ c. cc))
