@@ -3,26 +3,29 @@ use crate::repeat;
 use crate::text;
 
 pub fn run(s: &[u8]) {
-    let name = text::first(s);
     let args = text::rest(s);
+    vector(text::first(s), text::first(args), text::rest(args));
+}
+
+fn vector(name: &[u8], a: &[u8], b: &[u8]) {
     if check::same(name, b"base64url") {
-        codec(args);
+        codec(a, b);
     }
     if check::same(name, b"sha256") {
-        digest(args);
+        digest(a, b);
     }
     if check::same(name, b"hmac-sha256") {
-        mac(args);
+        mac(a, text::first(b));
     }
 }
 
 // Bytes and their text: the text decoded, the bytes encoded.
-fn codec(args: &[u8]) {
+fn codec(hex: &[u8], s: &[u8]) {
     let mut bytes = [0u8; 64];
     let mut out = [0u8; 64];
-    let n = text::unhex(text::first(args), &mut bytes);
+    let n = text::unhex(hex, &mut bytes);
     io::write_all(1, b"base64url ");
-    decoded(text::rest(args), &mut out);
+    decoded(s, &mut out);
     io::write_all(1, b" ");
     encoded(&bytes[0..n], &mut out);
     io::write_all(1, b"\n");
@@ -62,26 +65,24 @@ fn encoded(s: &[u8], out: &mut [u8]) {
 }
 
 // A message, or REPEAT, a count and a byte; its digest.
-fn digest(args: &[u8]) {
+fn digest(a: &[u8], b: &[u8]) {
     io::write_all(1, b"sha256 ");
-    if check::same(text::first(args), b"REPEAT") {
-        repeated(text::rest(args));
+    if check::same(a, b"REPEAT") {
+        repeated(text::first(b), text::first(text::rest(b)));
     } else {
-        hashed(args);
+        hashed(a);
     }
 }
 
-fn hashed(args: &[u8]) {
+fn hashed(hex: &[u8]) {
     let mut message = [0u8; 256];
-    let n = text::unhex(text::first(args), &mut message);
+    let n = text::unhex(hex, &mut message);
     let d = sha2::sha256(&message[0..n]);
     text::put_hex(&message[0..n]);
     put_last(&d);
 }
 
-fn repeated(args: &[u8]) {
-    let count = text::first(args);
-    let x = text::first(text::rest(args));
+fn repeated(count: &[u8], x: &[u8]) {
     let d = repeat::written(count, x);
     io::write_all(1, b"REPEAT ");
     io::write_all(1, count);
@@ -91,11 +92,11 @@ fn repeated(args: &[u8]) {
 }
 
 // A key, a message and their MAC.
-fn mac(args: &[u8]) {
+fn mac(a: &[u8], b: &[u8]) {
     let mut key = [0u8; 256];
     let mut message = [0u8; 256];
-    let n = text::unhex(text::first(args), &mut key);
-    let m = text::unhex(text::first(text::rest(args)), &mut message);
+    let n = text::unhex(a, &mut key);
+    let m = text::unhex(b, &mut message);
     put_mac(&key[0..n], &message[0..m]);
 }
 

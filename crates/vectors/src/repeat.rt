@@ -6,8 +6,7 @@ fn sha256(count: usize, x: u8) -> [u8; 32]
     requires { ⌜ count ≤ 1000000 ⌝ }
 {
     let k = sha2::constants();
-    let mut part = [0u8; 6400];
-    text::fill(&mut part, x);
+    let part = [x; 6400];
     let mut state = sha2::initial();
     let mut done: usize = 0;
     while 6400 <= count - done {

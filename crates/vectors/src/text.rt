@@ -82,11 +82,3 @@ pub fn put_text(s: &[u8]) {
     }
     io::write_all(1, s);
 }
-
-pub fn fill(s: &mut [u8], x: u8) {
-    let mut i: usize = 0;
-    while i < s.len() {
-        s[i] = x;
-        i += 1;
-    }
-}
