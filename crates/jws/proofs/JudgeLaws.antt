@@ -1,17 +1,15 @@
 -- Laws of a token's judgement: what each phase of the code leads to.
 use mathlib.Core.Path.{_≡_, refl, sym, ap, _∙_}
-use mathlib.Core.Bool.{Bool, true, false, not, cond, _&&_}
+use mathlib.Core.Bool.{Bool, true, false, not, cond}
 use mathlib.Core.List.{List, [], _∷_}
 use Prim.Native.Nat.{ℕ, _+_, _-_, _≤_, _<_}
 use native.Mathlib.Nat.{sub-zero}
 use native.Mathlib.Omega.{arith}
 use lib.ListN.{length, take, drop}
-use borrow.Author.Tests.{lt-ltb, le-ltb, eqb-false, eq-eqb, ne-eqb, not-true, not-false}
+use borrow.Author.Tests.{lt-ltb, le-ltb, eq-eqb, ne-eqb, not-true, not-false}
 use Rattle.common.specs.First.{_when_, first, first-within, first-after}
-use Rattle.common.specs.Decided.{test-false}
 use Rattle.common.specs.Laid.{part-from}
-use Rattle.common.specs.Same.{same, decides-same}
-use Rattle.base64url_rules.specs.Base64url.{decode, strict}
+use Rattle.common.specs.Same.{same}
 use Rattle.hmac.specs.Hmac.{HMACSHA256}
 use Rattle.hmac.specs.HmacLaws.{length-HMACSHA256}
 use Rattle.keytable_rules.specs.Key.{key}
@@ -30,9 +28,9 @@ use Rattle.jws_rules.specs.Tests.{choiceOf, verifyTests}
 use Rattle.jws_segments.specs.declared.signature.Signature.{Signature}
 use Rattle.jws_segments.specs.declared.opening.Opened.{Opened}
 use Rattle.jws_segments.specs.SplitLaws.{Places}
-use Rattle.jws_segments.specs.Opening.{segmentTests, Holds, isMac, Opens}
+use Rattle.jws_segments.specs.Opening.{segmentTests, isMac}
 use Rattle.jws.specs.Judging.{macTests, headerTests, laterTests, refusalOf, acceptanceOf, concluded, decidedAs, Judged, refusing, accepting}
-use Rattle.jws_segments.specs.OpenLaws.{Clear, clear}
+use Rattle.jws_segments.specs.OpenLaws.{Clear, clear, compared, Opens}
 
 -- a refusal, under the number that stands
 judged-refusal : {t T hb pb : List ℕ} {n m : ℕ} {r : Verified} → m ≡ n → (n ≡ 0 → ⊥) → r ≡ refusalOf n → Judged t T hb pb m r
@@ -73,16 +71,6 @@ conclusion o c m T e f g h =
 -- .. and by what the header decides
 pub decision-is : (o : Opened) (m T : List ℕ) {d e f : Decision} {v : Verified} → d ≡ e → d ≡ f → v ≡ decidedAs e o m T → v ≡ decidedAs f o m T
 decision-is o m T e f h = h ∙ ap (λ (d : Decision). decidedAs d o m T) (sym e ∙ f)
-
--- a signature of 32 bytes is compared whole, and one of another length differs
-compared : {z : List ℕ} {s : Signature} (mac : List ℕ) → Holds z s → strict z ≡ true → length mac ≡ 32 → isMac s mac ≡ same (decode z) mac
-compared {z} {s} mac h k l = go (s .whole) refl
-  where
-    go : (w : Bool) → s .whole ≡ w → w && same (s .bytes) mac ≡ same (decode z) mac
-    go true e = ap (λ (b : List ℕ). same b mac) (h .bytes-are k e)
-    go false e =
-        let n = eqb-false (length (decode z)) 32 (sym (h .whole-is) ∙ e) in
-        sym (test-false (decides-same (decode z) mac) (λ d. n (ap length d ∙ l)))
 
 judged-mac : {t T hb pb : List ℕ} {r : Verified} (s : Bool) → take (length (headerOf t)) hb ≡ headerOf t → take (length (payloadOf t)) pb ≡ payloadOf t
     → r ≡ cond s (record { answer = 0; about = recordOf (headerOf t) (payloadOf t) (choiceOf t T) }) (refusalOf 15)
@@ -131,9 +119,9 @@ module _ (t T : List ℕ) {hb pb : List ℕ} {hr pr : ℕ} {o : Opened} (g : Ope
         let n : first (laterTests t T hr pr) ≡ first (macTests t T) = next ∙ first-after (headingTests (headerOf t) (keys T)) (macTests t T) refl (d .0) in
         let header : take (length (headerOf t)) hb ≡ headerOf t = rw (← g .header-length) (g .header-front ok) in
         let payload : take (length (payloadOf t)) pb ≡ payloadOf t = rw (← g .payload-length) (g .payload-front ok) in
-        rw n
-        (judged-mac (same (signatureOf t) mac) header payload
-        (f ∙ rw (d .1, g .header-length, g .payload-length, compared mac (g .signature-in) (passed .strict3) (length-HMACSHA256 _ _))))
+        let compare : isMac (o .signature) mac ≡ same (signatureOf t) mac =
+        ap (λ (s : Signature). isMac s mac) (g .signature) ∙ compared (back (back t)) mac (passed .strict3) (length-HMACSHA256 _ _) in
+        rw n (judged-mac (same (signatureOf t) mac) header payload (f ∙ rw (d .1, g .header-length, g .payload-length, compare)))
 
     -- by what the header decides
     pub judged-header : {a b : ℕ} {r : Verified} → Places t a b → r ≡ decidedAs (decisionWith (take (o .header - 0) hb) (keys T)) o (take (b - 0) t) T

@@ -1,27 +1,28 @@
 -- Laws of the segments: what decoding one leaves in its buffer, and what rules 4 to 6 say of three.
 use mathlib.Core.Path.{_≡_, refl, sym, ap, _∙_, subst}
-use mathlib.Core.Bool.{Bool, true, false, not, _||_}
-use mathlib.Core.List.{List, _∷_}
+use mathlib.Core.Bool.{Bool, true, false, not, _&&_, _||_, true≢false}
+use mathlib.Core.List.{List, _∷_, append-nil}
 use Prim.Native.Nat.{ℕ, _≤_, _<_}
 use native.Mathlib.Omega.{arith}
 use lib.Dec.{ltb, eqb}
-use lib.ListN.{length, take, length-take, length-replicate}
-use lib.Seq.{take-all, take-append-seam}
-use borrow.Author.Tests.{lt-ltb, le-ltb, ltb-false, eqb-true}
+use lib.ListN.{length, take, replicate, length-take}
+use borrow.Author.Tests.{lt-ltb, le-ltb, ltb-false, eqb-true, eqb-false}
+use Rattle.common.specs.Buffer.{laid}
+use Rattle.common.specs.Decided.{test-false}
 use Rattle.common.specs.First.{_when_, first, all-pass}
+use Rattle.common.specs.Laid.{take-laid}
+use Rattle.common.specs.Same.{same, decides-same}
 use Rattle.base64url_rules.specs.Base64url.{decode, strict, decodedLength}
 use Rattle.base64url_rules.specs.LengthLaws.{length-decode}
-use Rattle.base64url_rules.specs.Outcome.{decodedTo, decoding}
-use Rattle.base64url_rules.specs.OutcomeLaws.{Judged, written, faulty, short, judge}
+use Rattle.base64url_rules.specs.Outcome.{Decoding, decodedTo, decoding}
+use Rattle.base64url_rules.specs.OutcomeLaws.{Judged, written, faulty, short, judge, accepted}
 use Rattle.base64url_rules.specs.declared.Decoded.{Decoded}
 use Rattle.base64url_rules.specs.declared.Decoded.the-variants.{Bytes, Fault, Short}
 use Rattle.json_rules.specs.Rules.{longest}
+use Rattle.jws_segments.specs.declared.segment.Segment.{Segment}
 use Rattle.jws_segments.specs.declared.signature.Signature.{Signature}
 use Rattle.jws_segments.specs.declared.opening.Opened.{Opened}
-use Rattle.jws_segments.specs.Opening.{lengthTests, openTests, segmentTests, DecodedInto, Holds, Opens}
-
-never : {P : Type 0} → true ≡ false → P
-never e = let z : _≡_ {A = ℕ} 0 1 = cc in absurd (omega arith)
+use Rattle.jws_segments.specs.Opening.{lengthTests, openTests, segmentTests, segmentOf, decodedOut, signatureIn, isMac, Opening, openedTo, opening}
 
 -- ONE SEGMENT
 
@@ -31,25 +32,46 @@ strictBy (Bytes n) = true
 strictBy (Fault place) = false
 strictBy Short = true
 
-judged-written : {s out buffer : List ℕ} {d : Decoded} → Judged s out d buffer → DecodedInto s (strictBy d) buffer
-judged-written {s} {out} (written h k) = record { strict-is = sym h; bytes = λ _ _. take-append-seam (decode s) _ }
-judged-written (faulty h e) = record { strict-is = sym h; bytes = λ k. never (sym k ∙ h) }
-judged-written {s} {out} (short h k) = record { strict-is = sym h; bytes = λ _ l. absurd (omega (arith, length-replicate {A = ℕ} (length out) 0)) }
+strict-by : (s out : List ℕ) {buffer : List ℕ} {d : Decoded} → decodedTo d buffer ≡ decoding s out → strictBy d ≡ strict s
+strict-by s out e = go (judge s out e)
+  where
+    go : {buffer : List ℕ} {d : Decoded} → Judged s out d buffer → strictBy d ≡ strict s
+    go (written h k) = sym h
+    go (faulty h e) = sym h
+    go (short h k) = sym h
 
-pub segment-written : (s out : List ℕ) {buffer : List ℕ} {d : Decoded} {r : Bool} → decodedTo d buffer ≡ decoding s out → strictBy d ≡ r → DecodedInto s r buffer
-segment-written s out {buffer} e k = subst (λ (b : Bool). DecodedInto s b buffer) k (judged-written (judge s out e))
+-- what decoding answers and leaves in the buffer, as the segment
+pub segment-is : (s out : List ℕ) {buffer : List ℕ} {d : Decoded} {b : Bool} {n : ℕ} → decodedTo d buffer ≡ decoding s out → strictBy d ≡ b → n ≡ decodedLength (length s)
+    → (_≡_ {A = Segment} (record { strict = b; length = n }) (segmentOf s)) × (buffer ≡ decodedOut s out)
+segment-is s out {b = b} {n} e k f =
+    let strictly : b ≡ strict s = sym k ∙ strict-by s out e in
+    let size : n ≡ length (decode s) = f ∙ sym (length-decode s) in
+    (rw (strictly, size), ap (λ (d : Decoding). d .buffer) e)
+
+-- a strict segment that fits stands at the buffer's front
+decoded-fits : (s out : List ℕ) → strict s ≡ true → length (decode s) ≤ length out → decodedOut s out ≡ laid (decode s) out
+decoded-fits s out h k = ap (λ (d : Decoding). d .buffer) (sym (accepted s out h k))
+
+decoded-front : (s out : List ℕ) → strict s ≡ true → length (decode s) ≤ length out → take (length (decode s)) (decodedOut s out) ≡ decode s
+decoded-front s out h k = ap (take (length (decode s))) (decoded-fits s out h k) ∙ take-laid (decode s) out (length (decode s)) refl
 
 -- THE SIGNATURE
 
-pub signature-holds : {z buffer : List ℕ} {r : Bool} {n : ℕ} → DecodedInto z r buffer → length buffer ≡ 32 → n ≡ decodedLength (length z)
-    → Holds z (record { strict = r; whole = eqb n 32; bytes = buffer })
-signature-holds {z} {buffer} {r} {n} w l e =
-    let k : n ≡ length (decode z) = e ∙ sym (length-decode z) in
-    record {
-      strict-is = w .strict-is;
-      whole-is = ap (λ (i : ℕ). eqb i 32) k;
-      bytes-are = λ s q. let i = eqb-true n 32 q in sym (take-all (length (decode z)) buffer (omega arith)) ∙ w .bytes s (omega arith);
-    }
+pub signature-is : (z : List ℕ) {buffer : List ℕ} {s : Segment} → (s ≡ segmentOf z) × (buffer ≡ decodedOut z (replicate 32 0))
+    → _≡_ {A = Signature} (record { strict = s .strict; whole = eqb (s .length) 32; bytes = buffer }) (signatureIn z)
+signature-is z (e, f) = rw (e, f)
+
+-- 32 bytes fill the buffer
+signature-bytes : (z : List ℕ) → strict z ≡ true → length (decode z) ≡ 32 → signatureIn z .bytes ≡ decode z
+signature-bytes z h e = decoded-fits z (replicate 32 0) h (omega arith) ∙ rw e (append-nil (decode z))
+
+-- a signature of 32 bytes is compared whole, and one of another length differs
+pub compared : (z mac : List ℕ) → strict z ≡ true → length mac ≡ 32 → isMac (signatureIn z) mac ≡ same (decode z) mac
+compared z mac h l = go (eqb (length (decode z)) 32) refl
+  where
+    go : (w : Bool) → eqb (length (decode z)) 32 ≡ w → w && same (signatureIn z .bytes) mac ≡ same (decode z) mac
+    go true e = ap (λ (b : List ℕ). same b mac) (signature-bytes z h (eqb-true _ _ e))
+    go false e = sym (test-false (decides-same (decode z) mac) (λ d. eqb-false _ _ e (ap length d ∙ l)))
 
 -- RULES 4 TO 6
 
@@ -79,12 +101,12 @@ pub record Clear (x y z : List ℕ) (hr pr : ℕ) : Type 0 where
 
 all-strict : (a b c : Bool) → not a || (not b || not c) ≡ false → (a ≡ true) × (b ≡ true) × (c ≡ true)
 all-strict true true true e = (refl, refl, refl)
-all-strict true true false e = never e
-all-strict true false c e = never e
-all-strict false b c e = never e
+all-strict true true false e = absurd (true≢false e)
+all-strict true false c e = absurd (true≢false e)
+all-strict false b c e = absurd (true≢false e)
 
 neither : (a b : Bool) → a || b ≡ false → (a ≡ false) × (b ≡ false)
-neither true b e = never e
+neither true b e = absurd (true≢false e)
 neither false b e = (refl, e)
 
 pub clear : (x y z : List ℕ) (hr pr : ℕ) → first (segmentTests x y z hr pr) ≡ 0 → Clear x y z hr pr
@@ -101,24 +123,37 @@ clear x y z hr pr e =
       payload-fits = ltb-false _ _ (f .1);
     }
 
--- the three segments together
-pub segments-open : {x y z hb pb : List ℕ} {hr pr : ℕ} {u v : Bool} {a n m : ℕ} {s : Signature}
-    → DecodedInto x u hb → DecodedInto y v pb → Holds z s → length hb ≡ hr → length pb ≡ pr
-    → n ≡ decodedLength (length x) → m ≡ decodedLength (length y) → a ≡ first (openTests u v (s .strict) n m (length hb) (length pb))
-    → Opens x y z hr pr (record { answer = a; header = n; payload = m; signature = s }) hb pb
-segments-open {x} {y} {z} {hb} {pb} {hr} {pr} {u} {v} {a} {n} {m} {s} h p g k l i j e =
-    let q : n ≡ length (decode x) = i ∙ sym (length-decode x) in
-    let r : m ≡ length (decode y) = j ∙ sym (length-decode y) in
-    let number : a ≡ first (segmentTests x y z hr pr) = e ∙ rw (h .strict-is, p .strict-is, g .strict-is, q, r, k, l) in
-    let ok : a ≡ 0 → Clear x y z hr pr = λ o. clear x y z hr pr (sym number ∙ o) in
-    record {
-      number = number;
-      header-length = q;
-      payload-length = r;
-      header-front = λ o. ap (λ (i : ℕ). take i hb) q ∙ h .bytes (ok o .strict1) (let w = ok o .header-fits in omega arith);
-      payload-front = λ o. ap (λ (i : ℕ). take i pb) r ∙ p .bytes (ok o .strict2) (let w = ok o .payload-fits in omega arith);
-      signature-in = g;
-    }
+-- THE THREE SEGMENTS
+
+pub opening-is : (x y z h p : List ℕ) {hb pb : List ℕ} {u v : Segment} {s : Signature} {a : ℕ}
+    → (u ≡ segmentOf x) × (hb ≡ decodedOut x h) → (v ≡ segmentOf y) × (pb ≡ decodedOut y p) → s ≡ signatureIn z
+    → length hb ≡ length h → length pb ≡ length p → a ≡ first (openTests (u .strict) (v .strict) (s .strict) (u .length) (v .length) (length hb) (length pb))
+    → openedTo (record { answer = a; header = u .length; payload = v .length; signature = s }) hb pb ≡ opening x y z h p
+unfolding opening
+opening-is x y z h p (e, i) (f, j) g k l n = rw (n, k, l, e, f, g, i, j)
+
+-- o is what was opened, hb and pb are the buffers then: what a caller goes by
+pub record Opens (x y z : List ℕ) (hr pr : ℕ) (o : Opened) (hb pb : List ℕ) : Type 0 where
+  pub number : o .answer ≡ first (segmentTests x y z hr pr)
+  pub header-length : o .header ≡ length (decode x)
+  pub payload-length : o .payload ≡ length (decode y)
+  pub header-front : o .answer ≡ 0 → take (o .header) hb ≡ decode x
+  pub payload-front : o .answer ≡ 0 → take (o .payload) pb ≡ decode y
+  pub signature : o .signature ≡ signatureIn z
+
+pub opens : (x y z h p : List ℕ) {o : Opened} {hb pb : List ℕ} → openedTo o hb pb ≡ opening x y z h p → Opens x y z (length h) (length p) o hb pb
+unfolding opening
+opens x y z h p e =
+    let ok = clear x y z (length h) (length p) in
+    subst (λ (q : Opening). Opens x y z (length h) (length p) (q .gives) (q .header) (q .payload)) (sym e)
+    (record {
+      number = refl;
+      header-length = refl;
+      payload-length = refl;
+      header-front = λ k. decoded-front x h (ok k .strict1) (ok k .header-fits);
+      payload-front = λ k. decoded-front y p (ok k .strict2) (ok k .payload-fits);
+      signature = refl;
+    })
 
 pub header-within : {x y z hb pb : List ℕ} {hr pr : ℕ} {o : Opened} → Opens x y z hr pr o hb pb → o .answer ≡ 0 → o .header ≤ length hb
 header-within {hb = hb} {o = o} g ok = let k = ap length (g .header-front ok) in omega (arith, g .header-length, length-take (o .header) hb)

@@ -1,14 +1,15 @@
 -- What opening a token answers: its segments x, y and z decoded, and rules 4 to 6 with buffers of hr and pr bytes for header and payload.
-use mathlib.Core.Path.{_≡_}
-use mathlib.Core.Bool.{Bool, true, not, _||_, _&&_}
+use mathlib.Core.Bool.{Bool, not, _||_, _&&_}
 use mathlib.Core.List.{List, [], _∷_}
-use Prim.Native.Nat.{ℕ, _≤_}
+use Prim.Native.Nat.{ℕ}
 use lib.Dec.{ltb, eqb}
-use lib.ListN.{length, take}
+use lib.ListN.{length, replicate}
 use Rattle.common.specs.First.{Test, _when_, first}
 use Rattle.common.specs.Same.{same}
 use Rattle.base64url_rules.specs.Base64url.{decode, strict}
+use Rattle.base64url_rules.specs.Outcome.{decoding}
 use Rattle.json_rules.specs.Rules.{longest}
+use Rattle.jws_segments.specs.declared.segment.Segment.{Segment}
 use Rattle.jws_segments.specs.declared.signature.Signature.{Signature}
 use Rattle.jws_segments.specs.declared.opening.Opened.{Opened}
 
@@ -22,26 +23,34 @@ openTests x y z n m hr pr = 4 when (not x || (not y || not z)) ∷ lengthTests n
 abbrev pub segmentTests : List ℕ → List ℕ → List ℕ → ℕ → ℕ → List Test
 segmentTests x y z hr pr = openTests (strict x) (strict y) (strict z) (length (decode x)) (length (decode y)) hr pr
 
--- the segment s was decoded into the buffer; r says whether it is strict
-pub record DecodedInto (s : List ℕ) (r : Bool) (buffer : List ℕ) : Type 0 where
-  pub strict-is : r ≡ strict s
-  pub bytes : strict s ≡ true → length (decode s) ≤ length buffer → take (length (decode s)) buffer ≡ decode s
+-- a segment: whether it is strict, and how many bytes it stands for
+abbrev pub segmentOf : List ℕ → Segment
+segmentOf s = record { strict = strict s; length = length (decode s) }
 
--- s is the signature in the segment z
-pub record Holds (z : List ℕ) (s : Signature) : Type 0 where
-  pub strict-is : s .strict ≡ strict z
-  pub whole-is : s .whole ≡ eqb (length (decode z)) 32
-  pub bytes-are : strict z ≡ true → s .whole ≡ true → s .bytes ≡ decode z
+-- what a buffer holds once a segment was decoded into it: its bytes and then what was there, or zeros where it isn't strict or doesn't fit
+abbrev pub decodedOut : List ℕ → List ℕ → List ℕ
+decodedOut s out = decoding s out .buffer
+
+-- the signature in the segment z, decoded into 32 zeros
+abbrev pub signatureIn : List ℕ → Signature
+signatureIn z = record { strict = strict z; whole = eqb (length (decode z)) 32; bytes = decodedOut z (replicate 32 0) }
 
 -- whether s is this MAC
 abbrev pub isMac : Signature → List ℕ → Bool
 isMac s mac = s .whole && same (s .bytes) mac
 
--- o is what was opened; hb and pb are the buffers afterwards
-pub record Opens (x y z : List ℕ) (hr pr : ℕ) (o : Opened) (hb pb : List ℕ) : Type 0 where
-  pub number : o .answer ≡ first (segmentTests x y z hr pr)
-  pub header-length : o .header ≡ length (decode x)
-  pub payload-length : o .payload ≡ length (decode y)
-  pub header-front : o .answer ≡ 0 → take (o .header) hb ≡ decode x
-  pub payload-front : o .answer ≡ 0 → take (o .payload) pb ≡ decode y
-  pub signature-in : Holds z (o .signature)
+-- what is opened, and what the buffers hold then
+abbrev pub openedOf : List ℕ → List ℕ → List ℕ → ℕ → ℕ → Opened
+openedOf x y z hr pr =
+    record { answer = first (segmentTests x y z hr pr); header = length (decode x); payload = length (decode y); signature = signatureIn z }
+
+pub record Opening : Type 0 where
+  pub gives : Opened
+  pub header : List ℕ
+  pub payload : List ℕ
+
+abbrev pub openedTo : Opened → List ℕ → List ℕ → Opening
+openedTo o header payload = record { gives = o; header = header; payload = payload }
+
+unfoldable pub opening : List ℕ → List ℕ → List ℕ → List ℕ → List ℕ → Opening
+opening x y z header payload = openedTo (openedOf x y z (length header) (length payload)) (decodedOut x header) (decodedOut y payload)

@@ -1,11 +1,11 @@
 // A token's signature.
 ghost use mathlib.Core.Path.{_≡_};
 ghost use Rattle.base64url_rules.specs.Tables.{values};
-ghost use Rattle.jws_segments.specs.Opening.{Holds, isMac};
+ghost use Rattle.jws_segments.specs.Opening.{signatureIn, isMac};
 use crate::equal::equal;
 use crate::segment::decode_segment;
 
-// Whether the segment is strict, whether it stands for 32 bytes, and if both, these.
+// Whether the segment is strict, whether it stands for 32 bytes, and its bytes, then zeros; zeros where it isn't strict, or longer.
 pub struct Signature {
     pub strict: bool,
     pub whole: bool,
@@ -15,13 +15,13 @@ pub struct Signature {
 // The signature in a segment.
 pub(crate) fn signature_in(table: &[u8; 256], text: &[u8]) -> Signature
     requires { ⌜ now table ≡ values ⌝ }
-    ensures { λ r. ⌜ Holds (now (text .entry)) r ⌝ }
+    ensures { λ r. ⌜ r ≡ signatureIn (now (text .entry)) ⌝ }
 {
     let mut bytes = [0u8; 32];
-    let strict = decode_segment(table, text, &mut bytes);
+    let segment = decode_segment(table, text, &mut bytes);
     Signature {
-        strict,
-        whole: base64url_decoding::decoded_len(text) == 32,
+        strict: segment.strict,
+        whole: segment.length == 32,
         bytes,
     }
 }

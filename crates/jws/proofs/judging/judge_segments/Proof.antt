@@ -2,14 +2,14 @@
 use lib.ListN.{length}
 use borrow.Author.Needs.{needs}
 use Rattle.jws.proofs.JudgeLaws as law
-use Rattle.jws_segments.specs.OpenLaws.{header-within}
+use Rattle.jws_segments.specs.OpenLaws.{opens, header-within}
 use Rattle.jws.proofs.judging.judge_segments.Statement.{statement}
 use Rattle.jws.proofs.judging.judge_segments.Tie as tie
 
 -- what was opened are the token's segments
 segments : (c : tie.After-open-segments) → let a = c .before .before .before .before .before .before .before .before .before .before .args in
     law.OpensToken (a .token .now) (length (a .header .now)) (length (a .payload .now)) (c .open-segments .result) (c .open-segments .last .1 .1 .1 .0) (c .open-segments .last .1 .1 .1 .1 .0)
-segments c = law.parts-open (c .before .before .before .before .before .before .before .before .before .before .pre .1) (c .open-segments .ensures)
+segments c = law.parts-open (c .before .before .before .before .before .before .before .before .before .before .pre .1) (opens _ _ _ _ _ (c .open-segments .ensures))
 
 returns : tie.Need-returns
 returns c = law.refused-segments _ _ (segments (c .before .before .before .before .before .before)) (c .before .if1 .taken) (c .refusal .ensures)

@@ -6,15 +6,15 @@ use Rattle.jws_segments.proofs.opening.open_segments.Tie as tie
 
 returns : tie.Need-returns
 returns c =
-    let z = c .before .before .before in
-    let y = z .before .before .before .before in
+    let y = c .before .before .before .before .before in
     let x = y .before .before .before .before .before in
-    law.segments-open (x .decode-segment .ensures) (y .decode-segment2 .ensures) (z .signature-in .ensures) (x .decode-segment .kept .1 .1 .0) (y .decode-segment2 .kept .1 .1 .0) (c .before .before .decoded-len .ensures) (c .before .decoded-len2 .ensures) (c .opening-answer .ensures)
+    law.opening-is _ _ _ _ _ (x .decode-segment .ensures) (y .decode-segment2 .ensures) (c .before .signature-in .ensures)
+    (x .decode-segment .kept .1 .1 .0) (y .decode-segment2 .kept .1 .1 .0) (c .opening-answer .ensures)
 
 pub open-segments-spec : {M : Type 1} → statement M
 open-segments-spec =
     tie.close
     (tie.spec
     (λ c κs. search needs) (λ c κs. search needs) (λ c κs. search needs) (λ c κs. search needs) (λ c κs. search needs)
-    (λ c κs. search needs) (λ c κs. search needs) (λ c. search needs) (λ c. search needs)
+    (λ c. search needs) (λ c. search needs)
     returns)

@@ -3,8 +3,6 @@ use borrow.Author.Needs.{needs}
 use Rattle.jws_segments.proofs.signature.is_mac.Statement.{statement}
 use Rattle.jws_segments.proofs.signature.is_mac.Tie as tie
 
-returns : tie.Need-returns
-returns c = rw (c .before .before .before .if1 .taken) (c .equal .ensures)
-
 pub is-mac-spec : {M : Type 1} → statement M
-is-mac-spec = tie.close (tie.spec (λ c κs. search needs) returns (λ c. search needs))
+is-mac-spec =
+    tie.close (tie.spec (λ c κs. search needs) (λ c. rw (c .before .before .before .if1 .taken) (c .equal .ensures)) (λ c. search needs))
