@@ -1,15 +1,16 @@
 -- One test for a group: the bitwise or of four values is below 64 exactly when each of them is.
-use mathlib.Core.Path.{_≡_, refl, _∙_}
-use mathlib.Core.Bool.{Bool, true, false, _&&_, and-assoc, and-true}
+use mathlib.Core.Path.{_≡_, refl, sym, _∙_}
+use mathlib.Core.Bool.{Bool, true, false, _&&_, and-assoc, and-true, false≢true}
 use mathlib.Core.List.{[], _∷_}
-use Prim.Native.Nat.{ℕ, _≤_, _<_}
+use Prim.Native.Nat.{ℕ, _+_, _*_, _/_, _%_, _≤_, _<_}
 use native.Mathlib.Omega.{arith}
 use lib.Bits.{bitOr, or-add-and, and-le-l, and-le-r, or-lt}
 use lib.Dec.{ltb}
 use borrow.Author.Tests.{lt-ltb, le-ltb, ltb-true, ltb-false}
 use Rattle.base64url_rules.specs.Alphabet.{value}
-use Rattle.base64url_rules.specs.Base64url.{alphabetic, strict}
+use Rattle.base64url_rules.specs.Base64url.{decode, alphabetic, strict}
 use Rattle.base64url_rules.specs.GroupLaws.{strict-groups}
+use Rattle.base64url_decoding.specs.Writing.{Grouped}
 
 le-or-l : (a b : ℕ) → a ≤ bitOr a b
 le-or-l a b = omega (arith, or-add-and a b, and-le-r a b)
@@ -44,6 +45,18 @@ below a b c d h =
     let u = le-or-r abc d in
     (omega arith, omega arith, omega arith, omega arith)
 
-pub group-test : (a b c d : ℕ) → strict (a ∷ b ∷ c ∷ d ∷ []) ≡ ltb (or4 (value a) (value b) (value c) (value d)) 64
+group-test : (a b c d : ℕ) → strict (a ∷ b ∷ c ∷ d ∷ []) ≡ ltb (or4 (value a) (value b) (value c) (value d)) 64
 unfolding alphabetic
 group-test a b c d = strict-groups (a ∷ b ∷ c ∷ d ∷ []) refl ∙ simp (or-test, and-assoc, and-true)
+
+-- the two answers, by the four values
+module _ (a b c d : ℕ) {va vb vc vd : ℕ} (ea : va ≡ value a) (eb : vb ≡ value b) (ec : vc ≡ value c) (ed : vd ≡ value d) where
+  judged : strict (a ∷ b ∷ c ∷ d ∷ []) ≡ ltb (or4 va vb vc vd) 64
+  judged = group-test a b c d ∙ rw (← ea, ← eb, ← ec, ← ed)
+
+  pub of-alphabet : or4 va vb vc vd < 64 → Grouped a b c d true (va * 4 + vb / 16) (vb % 16 * 16 + vc / 4) (vc % 4 * 64 + vd)
+  unfolding decode
+  of-alphabet h = record { answer = sym (judged ∙ lt-ltb _ 64 h); bytes = λ _. rw (ea, eb, ec, ed) }
+
+  pub outside : {x y z : ℕ} → 64 ≤ or4 va vb vc vd → Grouped a b c d false x y z
+  outside h = record { answer = sym (judged ∙ le-ltb _ 64 h); bytes = λ e. absurd (false≢true e) }

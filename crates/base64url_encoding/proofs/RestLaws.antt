@@ -3,11 +3,13 @@ use mathlib.Core.Path.{_≡_, refl, ap, sym, _∙_}
 use mathlib.Core.List.{List, [], _∷_}
 use Prim.Native.Nat.{ℕ, _+_, _-_, _*_, _/_, _%_, _≤_, _<_}
 use native.Mathlib.Omega.{arith}
-use lib.ListN.{length, take, drop, set, length-drop}
+use lib.ListN.{length, getD, take, drop, set, length-drop}
 use Rattle.common.specs.Buffer.{laid}
 use Rattle.common.specs.Laid.{laid-stores, part-from}
 use Rattle.base64url_rules.specs.Base64url.{encode, encodedLength}
 use Rattle.base64url_rules.specs.LengthLaws.{encoded-length}
+use Rattle.base64url_rules.specs.Listed.{listed}
+use Rattle.base64url_rules.specs.Tables.{entries}
 
 -- the rest is short, and fits where the whole does
 pub rest-fits : (s out : List ℕ) → encodedLength (length s) ≤ length out
@@ -21,6 +23,10 @@ rest-fits s out h =
     let e = encoded-length (length (take (length s - n) (drop n s))) in
     let k = encoded-length (length s) in
     (omega arith, omega arith)
+
+-- n bytes, by these one by one
+pub as-listed : (s : List ℕ) (n : ℕ) (out₀ : List ℕ) {out : List ℕ} → length s ≡ n → out ≡ laid (encode (entries (λ i. getD s i 0) 0 n)) out₀ → out ≡ laid (encode s) out₀
+as-listed s n out₀ h e = e ∙ ap (λ (l : List ℕ). laid (encode l) out₀) (listed s n h)
 
 -- one byte and two, by the characters of their group
 pub one-byte : (x a b c d : ℕ) (out : List ℕ) → encode (x ∷ 0 ∷ 0 ∷ []) ≡ a ∷ b ∷ c ∷ d ∷ [] → 2 ≤ length out → set (set out 0 a) 1 b ≡ laid (encode (x ∷ [])) out

@@ -11,17 +11,17 @@ use Rattle.base64url_encoding.proofs.encode_with.Tie as tie
 
 returns : tie.Need-returns
 returns c =
-    let s = c .before .before .before .before .before .before .before .before .args .bytes .now in
-    let out = c .before .before .before .before .before .before .before .before .args .out .now in
-    let n : c .before .before .before .before .before .encoded-len .result ≡ length (encode s) = c .before .before .before .before .before .encoded-len .ensures ∙ sym (length-encode s) in
-    rw (n, c .before .before .encode-into .ensures) (roomy s out (omega arith))
+    let l = c .before .before .before .before .before in
+    let s = l .before .before .before .args .bytes .now in
+    let n : l .encoded-len .result ≡ length (encode s) = l .encoded-len .ensures ∙ sym (length-encode s) in
+    rw (n, c .before .before .encode-into .ensures) (roomy s _ (omega arith))
 
 returns-2 : tie.Need-returns-2
 returns-2 c =
-    let s = c .before .before .before .before .before .before .before .before .args .bytes .now in
-    let out = c .before .before .before .before .before .before .before .before .args .out .now in
-    let n : c .before .before .before .before .before .encoded-len .result ≡ length (encode s) = c .before .before .before .before .before .encoded-len .ensures ∙ sym (length-encode s) in
-    rw (c .before .before .zero .ensures) (tight s out (omega arith))
+    let l = c .before .before .before .before .before in
+    let s = l .before .before .before .args .bytes .now in
+    let n : l .encoded-len .result ≡ length (encode s) = l .encoded-len .ensures ∙ sym (length-encode s) in
+    rw (c .before .before .zero .ensures) (tight s _ (omega arith))
 
 pub encode-with-spec : {M : Type 1} → statement M
 encode-with-spec =

@@ -4,18 +4,6 @@ use Rattle.jws.proofs.ClearLaws as law
 use Rattle.jws.proofs.verify.Statement.{statement}
 use Rattle.jws.proofs.verify.Tie as tie
 
-sub-zero : tie.Need-sub-zero
-sub-zero c = law.header-within (c .before .before .before .before .judge .ensures)
-
-part-zero-start : tie.Need-part-zero-start
-part-zero-start c = law.header-within (c .before .before .before .before .judge .ensures)
-
-sub-zero-2 : tie.Need-sub-zero-2
-sub-zero-2 c = law.payload-within (c .before .before .before .before .before .before .before .before .judge .ensures)
-
-part-zero-start-2 : tie.Need-part-zero-start-2
-part-zero-start-2 c = law.payload-within (c .before .before .before .before .before .before .before .before .judge .ensures)
-
 returns : tie.Need-returns
 returns c =
     let z = c .before .before .before .before .before .before in
@@ -27,10 +15,8 @@ verify-spec =
     tie.close
     (tie.spec
     (λ c κs. search needs)
-    sub-zero
-    part-zero-start
+    (λ c. law.header-within (c .before .before .before .before .judge .ensures)) (λ c. law.header-within (c .before .before .before .before .judge .ensures))
     (λ c. search needs) (λ c κs. search needs)
-    sub-zero-2
-    part-zero-start-2
+    (λ c. law.payload-within (c .before .before .before .before .before .before .before .before .judge .ensures)) (λ c. law.payload-within (c .before .before .before .before .before .before .before .before .judge .ensures))
     (λ c. search needs) (λ c κs. search needs) (λ c. search needs) (λ c. search needs)
     returns)

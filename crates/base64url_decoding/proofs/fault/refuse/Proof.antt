@@ -15,10 +15,14 @@ sub-t9 : tie.Need-sub-t9
 sub-t9 c = unused-length _ (λ e. c .if3 .left (c .before .unused-bits .ensures ∙ e))
 
 returns-3 : tie.Need-returns-3
-returns-3 c = no-fault _ (c .before .before .before .before .first-outside .ensures) (c .before .before .before .if1 .left) (c .before .before .if2 .left) (c .before .unused-bits .ensures) (c .if3 .taken)
+returns-3 c =
+    let l = c .before .before .before in
+    no-fault _ (l .before .first-outside .ensures) (l .if1 .left) (c .before .before .if2 .left) (c .before .unused-bits .ensures) (c .if3 .taken)
 
 returns-4 : tie.Need-returns-4
-returns-4 c = at-last _ (c .before .before .before .before .first-outside .ensures) (c .before .before .before .if1 .left) (c .before .before .if2 .left) (c .before .unused-bits .ensures) (c .if3 .left)
+returns-4 c =
+    let l = c .before .before .before in
+    at-last _ (l .before .first-outside .ensures) (l .if1 .left) (c .before .before .if2 .left) (c .before .unused-bits .ensures) (c .if3 .left)
 
 pub refuse-spec : {M : Type 1} → statement M
 refuse-spec =

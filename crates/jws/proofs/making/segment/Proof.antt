@@ -8,18 +8,6 @@ use Rattle.jws.proofs.FrontLaws.{segment-front}
 use Rattle.jws.proofs.making.segment.Statement.{statement}
 use Rattle.jws.proofs.making.segment.Tie as tie
 
-sub-encode-with : tie.Need-sub-encode-with
-sub-encode-with c = simp length-set (omega arith)
-
-part-encode-with-start : tie.Need-part-encode-with-start
-part-encode-with-start c = simp length-set (omega arith)
-
-add-result-2 : tie.Need-add-result-2
-add-result-2 c = omega (arith, length-encode (c .before .before .before .before .before .before .before .args .bytes .now))
-
-same-length : tie.Need-same-length
-same-length c = c .before .before .token .given .1 ∙ simp length-set
-
 returns : tie.Need-returns
 returns c =
     let s = c .before .before .before .before .before .before .before in
@@ -31,9 +19,8 @@ segment-spec =
     tie.close
     (tie.spec
     (λ c. search needs) (λ c. search needs)
-    sub-encode-with
-    part-encode-with-start
+    (λ c. simp length-set (omega arith)) (λ c. simp length-set (omega arith))
     (λ c. search needs) (λ c κs. search needs) (λ c. search needs) (λ c κs. search needs)
-    add-result-2
-    same-length
+    (λ c. omega (arith, length-encode (c .before .before .before .before .before .before .before .args .bytes .now)))
+    (λ c. c .before .before .token .given .1 ∙ simp length-set)
     returns)
