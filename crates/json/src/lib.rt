@@ -3,9 +3,5 @@ mod header; // header.rt: what a header answers, and its members
 
 pub use header::check;
 pub use header::member;
-pub use json_check::check_text;
-pub use json_members::Kind;
-pub use json_rules::DEEPEST;
-pub use json_rules::LONGEST;
 pub use json_rules::Member;
 pub use json_rules::Place;

@@ -2,6 +2,8 @@
 use json::Member;
 use json::Place;
 use libc::STDOUT_FILENO;
+ghost use Prim.Native.Nat.{_≤_};
+ghost use lib.ListN.{length};
 
 fn say(s: &[u8]) {
     io::write_all(STDOUT_FILENO, s);
@@ -49,8 +51,26 @@ fn line(what: &[u8], h: &[u8], k: usize) {
     say(b"\n");
 }
 
-fn row(what: &[u8], h: &[u8]) {
-    line(what, h, 0);
+// The place of the first colon, or the length.
+fn colon(text: &[u8]) -> usize
+    ensures { λ r. ⌜ r ≤ length (now (text .entry)) ⌝ }
+{
+    let mut i = 0;
+    while i < text.len() {
+        if text[i] == 0x3A {
+            return i;
+        }
+        i += 1;
+    }
+    i
+}
+
+// A line for the first member: the text is what is run, a colon, a space and the header.
+fn row(text: &[u8]) {
+    let i = colon(text);
+    if 2 <= text.len() - i {
+        line(&text[..i], &text[i + 2..], 0);
+    }
 }
 
 // A line for each of the first n members.
@@ -75,14 +95,14 @@ fn long(what: &[u8], n: usize) {
             h[5] = 0x22;
             h[n - 2] = 0x22;
             h[n - 1] = 0x7D;
-            row(what, &h[..n]);
+            line(what, &h[..n], 0);
         }
     }
 }
 
 // The same of a whole array.
 fn filled_row(what: &[u8], h: &[u8; 1024]) {
-    row(what, &h[..]);
+    line(what, &h[..], 0);
 }
 
 // The byte at place i of the header {"aa":0,"ab":0,..} of n members: names of two letters, all different, or the last as the first if `twice`.
@@ -134,15 +154,11 @@ fn many(what: &[u8], n: usize, twice: bool) {
 
 // Arrays and objects within the depth, and one deeper.
 fn depths() {
-    row(b"seven arrays nested", b"{\"x\":[[[[[[[]]]]]]]}");
-    row(b"eight arrays nested", b"{\"x\":[[[[[[[[]]]]]]]]}");
+    row(b"seven arrays nested: {\"x\":[[[[[[[]]]]]]]}");
+    row(b"eight arrays nested: {\"x\":[[[[[[[[]]]]]]]]}");
+    row(b"seven objects nested: {\"x\":{\"x\":{\"x\":{\"x\":{\"x\":{\"x\":{\"x\":{}}}}}}}}");
     row(
-        b"seven objects nested",
-        b"{\"x\":{\"x\":{\"x\":{\"x\":{\"x\":{\"x\":{\"x\":{}}}}}}}}",
-    );
-    row(
-        b"eight objects nested",
-        b"{\"x\":{\"x\":{\"x\":{\"x\":{\"x\":{\"x\":{\"x\":{\"x\":{}}}}}}}}}",
+        b"eight objects nested: {\"x\":{\"x\":{\"x\":{\"x\":{\"x\":{\"x\":{\"x\":{\"x\":{}}}}}}}}}",
     );
 }
 
@@ -150,14 +166,14 @@ fn depths() {
 fn lengths() {
     long(b"1,024 bytes", 1024);
     long(b"1,025 bytes", 1025);
-    row(b"no bytes", b"");
+    row(b"no bytes: ");
 }
 
 // The text is one object.
 fn tops() {
-    row(b"no members", b" { } ");
-    row(b"an array at the top", b"[]");
-    row(b"bytes after the text", b"{}x");
+    row(b"no members:  { } ");
+    row(b"an array at the top: []");
+    row(b"bytes after the text: {}x");
 }
 
 // A member of each kind, and one more that is not there.
@@ -171,94 +187,67 @@ fn kinds() {
 
 // Values and members that the grammar does not derive.
 fn values() {
-    row(b"a number that begins with 0", b"{\"x\":01}");
-    row(b"a number with a plus sign", b"{\"x\":+1}");
-    row(b"a number with no digit after the point", b"{\"x\":1.}");
-    row(b"a word cut short", b"{\"x\":tru}");
-    row(b"a comma after the last element", b"{\"x\":[1,]}");
-    row(b"no colon", b"{\"x\" 1}");
-    row(b"vertical tab", b"{\"x\":\x0B1}");
+    row(b"a number that begins with 0: {\"x\":01}");
+    row(b"a number with a plus sign: {\"x\":+1}");
+    row(b"a number with no digit after the point: {\"x\":1.}");
+    row(b"a word cut short: {\"x\":tru}");
+    row(b"a comma after the last element: {\"x\":[1,]}");
+    row(b"no colon: {\"x\" 1}");
+    row(b"vertical tab: {\"x\":\x0B1}");
 }
 
 // Escapes, and surrogates that are escaped.
 fn escapes() {
-    row(
-        b"every short escape",
-        b"{\"x\":\"\\\"\\\\\\/\\b\\f\\n\\r\\t\"}",
-    );
-    row(b"another escape", b"{\"x\":\"\\a\"}");
-    row(b"hexadecimal digits", b"{\"x\":\"\\u09AF\"}");
-    row(b"small hexadecimal digits", b"{\"x\":\"\\u09af\"}");
-    row(b"a surrogate pair", b"{\"x\":\"\\uD834\\uDD1E\"}");
-    row(b"a high surrogate alone", b"{\"x\":\"\\uD834\"}");
-    row(b"a high surrogate twice", b"{\"x\":\"\\uD834\\uD834\"}");
-    row(b"a low surrogate alone", b"{\"x\":\"\\uDD1E\"}");
+    row(b"every short escape: {\"x\":\"\\\"\\\\\\/\\b\\f\\n\\r\\t\"}");
+    row(b"another escape: {\"x\":\"\\a\"}");
+    row(b"hexadecimal digits: {\"x\":\"\\u09AF\"}");
+    row(b"small hexadecimal digits: {\"x\":\"\\u09af\"}");
+    row(b"a surrogate pair: {\"x\":\"\\uD834\\uDD1E\"}");
+    row(b"a high surrogate alone: {\"x\":\"\\uD834\"}");
+    row(b"a high surrogate twice: {\"x\":\"\\uD834\\uD834\"}");
+    row(b"a low surrogate alone: {\"x\":\"\\uDD1E\"}");
 }
 
 // Control characters.
 fn controls() {
-    row(b"U+0000 escaped", b"{\"x\":\"\\u0000\"}");
-    row(b"U+0000 as a byte", b"{\"x\":\"\x00\"}");
-    row(b"a line feed in a string", b"{\"x\":\"\n\"}");
+    row(b"U+0000 escaped: {\"x\":\"\\u0000\"}");
+    row(b"U+0000 as a byte: {\"x\":\"\x00\"}");
+    row(b"a line feed in a string: {\"x\":\"\n\"}");
 }
 
 // Characters of two and three octets.
 fn octets() {
-    row(b"U+0080 and U+07FF", b"{\"x\":\"\xC2\x80\xDF\xBF\"}");
-    row(b"overlong form of two", b"{\"x\":\"\xC1\xBF\"}");
-    row(
-        b"U+0800 and U+FFFF",
-        b"{\"x\":\"\xE0\xA0\x80\xEF\xBF\xBF\"}",
-    );
-    row(b"overlong form of three", b"{\"x\":\"\xE0\x9F\xBF\"}");
-    row(b"a surrogate in UTF-8", b"{\"x\":\"\xED\xA0\x80\"}");
+    row(b"U+0080 and U+07FF: {\"x\":\"\xC2\x80\xDF\xBF\"}");
+    row(b"overlong form of two: {\"x\":\"\xC1\xBF\"}");
+    row(b"U+0800 and U+FFFF: {\"x\":\"\xE0\xA0\x80\xEF\xBF\xBF\"}");
+    row(b"overlong form of three: {\"x\":\"\xE0\x9F\xBF\"}");
+    row(b"a surrogate in UTF-8: {\"x\":\"\xED\xA0\x80\"}");
 }
 
 // Characters of four octets, and no character.
 fn four_octets() {
-    row(
-        b"U+10000 and U+10FFFF",
-        b"{\"x\":\"\xF0\x90\x80\x80\xF4\x8F\xBF\xBF\"}",
-    );
-    row(b"overlong form of four", b"{\"x\":\"\xF0\x8F\xBF\xBF\"}");
-    row(b"above U+10FFFF", b"{\"x\":\"\xF4\x90\x80\x80\"}");
-    row(b"a tail alone", b"{\"x\":\"\x80\"}");
+    row(b"U+10000 and U+10FFFF: {\"x\":\"\xF0\x90\x80\x80\xF4\x8F\xBF\xBF\"}");
+    row(b"overlong form of four: {\"x\":\"\xF0\x8F\xBF\xBF\"}");
+    row(b"above U+10FFFF: {\"x\":\"\xF4\x90\x80\x80\"}");
+    row(b"a tail alone: {\"x\":\"\x80\"}");
 }
 
 // Byte order marks.
 fn marks() {
-    row(
-        b"a byte order mark before the text",
-        b"\xEF\xBB\xBF{\"x\":1}",
-    );
-    row(
-        b"a byte order mark in a string",
-        b"{\"x\":\"\xEF\xBB\xBF\"}",
-    );
+    row(b"a byte order mark before the text: \xEF\xBB\xBF{\"x\":1}");
+    row(b"a byte order mark in a string: {\"x\":\"\xEF\xBB\xBF\"}");
 }
 
 // Names in one object and in several.
 fn names() {
-    row(b"one name twice", b"{\"x\":1,\"x\":2}");
-    row(b"names of different case", b"{\"x\":1,\"X\":2}");
-    row(
-        b"one name twice, by an escape",
-        b"{\"\\uD834\\uDD1E\":1,\"\xF0\x9D\x84\x9E\":2}",
-    );
-    row(
-        b"one name twice in a nested object",
-        b"{\"x\":[0,{\"y\":{\"z\":1,\"w\":2,\"z\":3}}]}",
-    );
-    row(
-        b"one name in two objects",
-        b"{\"x\":{\"y\":1},\"y\":{\"x\":1}}",
-    );
-    row(
-        b"braces in a string",
-        b"{\"x\":\"{\\\"y\\\":1,\\\"y\\\":2}\"}",
-    );
-    row(b"the empty name twice", b"{\"\":1,\"\":2}");
-    row(b"a name twice, then no end", b"{\"x\":1,\"x\":2");
+    row(b"one name twice: {\"x\":1,\"x\":2}");
+    row(b"names of different case: {\"x\":1,\"X\":2}");
+    row(b"one name twice, by an escape: {\"\\uD834\\uDD1E\":1,\"\xF0\x9D\x84\x9E\":2}");
+    row(b"one name twice in a nested object: {\"x\":[0,{\"y\":{\"z\":1,\"w\":2,\"z\":3}}]}");
+    row(b"one name in two objects: {\"x\":{\"y\":1},\"y\":{\"x\":1}}");
+    row(b"braces in a string: {\"x\":\"{\\\"y\\\":1,\\\"y\\\":2}\"}");
+    row(b"the empty name twice: {\"\":1,\"\":2}");
+    row(b"a name twice, then no end: {\"x\":1,\"x\":2");
 }
 
 // Names within a block of the search, and past it.

@@ -5,8 +5,8 @@ use borrow.Author.Needs.{needs}
 use Rattle.json_cases.proofs.long.Statement.{statement}
 use Rattle.json_cases.proofs.long.Tie as tie
 
-slice-aggregate-row : tie.Need-slice-aggregate-row
-slice-aggregate-row c = simp (length-take, length-set) (omega arith)
+slice-aggregate-line : tie.Need-slice-aggregate-line
+slice-aggregate-line c = simp (length-take, length-set) (omega arith)
 
 pub long-spec : {M : Type 1} → statement M
 long-spec =
@@ -15,6 +15,6 @@ long-spec =
     (λ c. search needs) (λ c. search needs) (λ c. search needs) (λ c. search needs) (λ c. search needs)
     (λ c. search needs) (λ c. search needs) (λ c. search needs) (λ c. search needs) (λ c. search needs)
     (λ c. search needs)
-    slice-aggregate-row
+    slice-aggregate-line
     (λ c κs. search needs) (λ c. search needs) (λ c. search needs)
     (λ c. search needs))
