@@ -43,7 +43,7 @@ returns-5 : tie.Need-returns-5
 unfolding ascii fmt
 returns-5 c =
     let e = c .before .before .before .before .before in
-    lists-other (array (e .before .before .before .before)) (first (e)) (item-at _ _ _ (c .before .before .before .before .item-at .ensures)) _ (c .before .text-is .ensures) (c .if1 .left)
+    lists-other (array (e .before .before .before .before)) (first e) (item-at _ _ _ (c .before .before .before .before .item-at .ensures)) _ (c .before .text-is .ensures) (c .if1 .left)
 
 pub lists-format-spec : {M : Type 1} → statement M
 lists-format-spec =

@@ -26,7 +26,11 @@ part-parse-end c = let n = number-at (there (c .before .before .before)) (sym (c
 returns-2 : tie.Need-returns-2
 returns-2 c =
     let e = c .before .before .before .before .before in
-    let size-is : (e .before .slot .given .0 .1 .0 .start + c .before .before .size .result) - e .before .slot .given .0 .1 .0 .start ≡ sizeOf (e .before .slot .given .0 .1 .0) = omega (arith, c .before .before .size .ensures) in format-number (there (e)) (sym (c .before .before .before .before .is-number .ensures) ∙ c .before .before .before .if1 .taken) (c .parse .ensures ∙ ap (λ (n : ℕ). integerOf (take n (drop (e .before .slot .given .0 .1 .0 .start) (now (e .before .before .before .before .args .header))))) size-is)
+    let place = e .before .slot .given .0 .1 .0 in
+    let size-is : (place .start + c .before .before .size .result) - place .start ≡ sizeOf place = omega (arith, c .before .before .size .ensures) in
+    let text = drop (place .start) (now (e .before .before .before .before .args .header)) in
+    format-number (there e) (sym (c .before .before .before .before .is-number .ensures) ∙ c .before .before .before .if1 .taken)
+    (c .parse .ensures ∙ ap (λ (n : ℕ). integerOf (take n text)) size-is)
 
 returns-3 : tie.Need-returns-3
 returns-3 c = format-other (there (c .before .before)) (sym (c .before .is-number .ensures) ∙ c .if1 .left)

@@ -5,18 +5,6 @@ use Rattle.common.specs.First.{holds, fails}
 use Rattle.keytable.proofs.area.placed.Statement.{statement}
 use Rattle.keytable.proofs.area.placed.Tie as tie
 
-returns : tie.Need-returns
-returns c = fails (λ p. omega arith)
-
-returns-2 : tie.Need-returns-2
-returns-2 c = fails (λ p. omega arith)
-
-returns-3 : tie.Need-returns-3
-returns-3 c = fails (λ p. omega arith)
-
-returns-4 : tie.Need-returns-4
-returns-4 c = fails (λ p. omega arith)
-
 returns-5 : tie.Need-returns-5
 returns-5 c = holds (record { long = omega arith; short = omega arith; begins = omega arith; ends = omega arith })
 
@@ -25,9 +13,7 @@ placed-spec =
     tie.close
     (tie.spec
     (λ c κs. search needs) (λ c. search needs) (λ c. search needs) (λ c κs. search needs) (λ c. search needs)
-    returns
-    returns-2
-    returns-3
+    (λ c. fails (λ p. omega arith)) (λ c. fails (λ p. omega arith)) (λ c. fails (λ p. omega arith))
     (λ c. search needs)
-    returns-4
+    (λ c. fails (λ p. omega arith))
     returns-5)
