@@ -6,7 +6,7 @@ use native.Mathlib.Omega.{arith}
 use lib.ListN.{length, drop, getD}
 use borrow.Author.Tests.{eq-eqb, ne-eqb}
 use Rattle.json_grammar.specs.Value.{LMember, stringL, numberL, trueL, falseL, nullL, arrayL, objectL, item, named}
-use Rattle.json_grammar.specs.Reader.{Got, bad, got, over, expect, ws, deeper, upTo, valueLead, numberLead, readChars, readValue, readMoreElements, readMoreMembers}
+use Rattle.json_grammar.specs.Reader.{Got, bad, got, over, expect, ws, deeper, upTo, valueLead, readChars, readValue, readMoreElements, readMoreMembers}
 use Rattle.json_grammar.specs.ReaderLaws.{expect-over}
 use Rattle.json_grammar.specs.Sequences.{Sequence, listed, members, elements}
 use Rattle.json_grammar.specs.Levels.{readMembers}
@@ -20,7 +20,7 @@ use Rattle.json_tokens.specs.TokenLaws.{number-ends, word-ends}
 use Rattle.json_reader.specs.Contracts.{ValueEnds, BareEnds, ArrayEnds, ElementsEnd, ObjectEnds, MembersEnd, MemberEnds, AfterName}
 use Rattle.json_reader.specs.Contracts.{readTrimmed, bareEnd}
 use Rattle.json_reader.specs.ReadLaws.{bare-ends}
-use Rattle.json_reader.specs.ValueLaws.{no-trimmed, placed-at}
+use Rattle.json_reader.specs.ValueLaws.{lead-number, no-trimmed, placed-at}
 use Rattle.json_tokens.specs.EndsLaws.{given, none, bounds, earlier, same, wrong, out, first, first-below, first-same, first-only, first-bad, bind, bind-bad, map, renamed, moved, deepened}
 
 -- SEQUENCES, of elements and of members: one or more with commas between them, and the closing byte
@@ -116,10 +116,6 @@ module _ {s : List ℕ} {from : ℕ} (d : ℕ) where
   member-out h = out h (λ n. refl)
 
 -- A VALUE FROM ITS FIRST BYTE ON
-
-lead-number : (b : ℕ) → (b ≡ 0x22 → ⊥) → (b ≡ 0x5B → ⊥) → (b ≡ 0x7B → ⊥) → (b ≡ 0x74 → ⊥) → (b ≡ 0x66 → ⊥) → (b ≡ 0x6E → ⊥) → valueLead b ≡ numberLead
-unfolding valueLead
-lead-number b h1 h2 h3 h4 h5 h6 = rw (ne-eqb b 0x22 h1, ne-eqb b 0x5B h2, ne-eqb b 0x7B h3, ne-eqb b 0x74 h4, ne-eqb b 0x66 h5, ne-eqb b 0x6E h6)
 
 pub bare-out : {s : List ℕ} {at : ℕ} (d : ℕ) → length s ≤ at → BareEnds s at d Bad
 bare-out d h = out h (no-trimmed d)

@@ -4,6 +4,7 @@ use mathlib.Core.List.{List, [], _∷_}
 use Prim.Native.Nat.{ℕ, zero, suc}
 use native.Mathlib.Omega.{arith}
 use lib.ListN.{drop}
+use borrow.Author.Tests.{ne-eqb}
 use Rattle.json_grammar.specs.Value.{LValue, plain}
 use Rattle.json_grammar.specs.Places.{kindOf}
 use Rattle.json_grammar.specs.Reader.{Got, bad, got, over, ws, word, placedItem, readChars, readNumber}
@@ -13,6 +14,11 @@ use Rattle.json_tokens.specs.Tokens.{SkipsTo}
 use Rattle.json_reader.specs.Contracts.{readTrimmed, readArray, kindBy}
 
 -- THE KIND OF A VALUE, by its first byte
+
+-- a number's is none of the others'
+pub lead-number : (b : ℕ) → (b ≡ 0x22 → ⊥) → (b ≡ 0x5B → ⊥) → (b ≡ 0x7B → ⊥) → (b ≡ 0x74 → ⊥) → (b ≡ 0x66 → ⊥) → (b ≡ 0x6E → ⊥) → valueLead b ≡ numberLead
+unfolding valueLead
+lead-number b h1 h2 h3 h4 h5 h6 = rw (ne-eqb b 0x22 h1, ne-eqb b 0x5B h2, ne-eqb b 0x7B h3, ne-eqb b 0x74 h4, ne-eqb b 0x66 h5, ne-eqb b 0x6E h6)
 
 over-kind : {A : Type 0} {v : LValue} {y : List ℕ} (f : A → LValue) (t : ValueLead) → ((a : A) → kindOf (plain (f a)) ≡ kindBy t) → (g : Got A) → over f g ≡ got v y
     → kindOf (plain v) ≡ kindBy t

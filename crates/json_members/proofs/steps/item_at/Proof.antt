@@ -9,21 +9,12 @@ use Rattle.json_members.proofs.StepPaths as law
 use Rattle.json_members.proofs.steps.item_at.Statement.{statement}
 use Rattle.json_members.proofs.steps.item_at.Tie as tie
 
-spanned-requires : tie.Need-spanned-requires
-spanned-requires c κs = let k = bounds (bare-ends _ (sym (c .before .e .given .1) ∙ c .before .before .before .bare .ensures)) in (omega (arith, k .0), k .1)
-
-returns : tie.Need-returns
-returns c = law.item-is _ (skips (c .before .before .before .before .before .skip-ws .ensures)) (sym (c .before .before .e .given .1) ∙ c .before .before .before .before .bare .ensures) (c .spanned .ensures)
-
-returns-2 : tie.Need-returns-2
-returns-2 c = law.no-item _ (skips (c .before .before .before .before .skip-ws .ensures)) (sym (c .before .enum-told .given .1) ∙ c .before .before .before .bare .ensures) (c .no-item .ensures)
-
 pub item-at-spec : {M : Type 1} → statement M
 item-at-spec =
     tie.close
     (tie.spec
     (λ c κs. tt) (λ c κs. tt) (λ c. search needs)
-    spanned-requires
+    (λ c κs. let k = bounds (bare-ends _ (sym (c .before .e .given .1) ∙ c .before .before .before .bare .ensures)) in (omega (arith, k .0), k .1))
     (λ c. search needs) (λ c κs. tt)
-    returns
-    returns-2)
+    (λ c. law.item-is _ (skips (c .before .before .before .before .before .skip-ws .ensures)) (sym (c .before .before .e .given .1) ∙ c .before .before .before .before .bare .ensures) (c .spanned .ensures))
+    (λ c. law.no-item _ (skips (c .before .before .before .before .skip-ws .ensures)) (sym (c .before .enum-told .given .1) ∙ c .before .before .before .bare .ensures) (c .no-item .ensures)))
