@@ -7,7 +7,7 @@ use Prim.Native.Nat.{ℕ, _≤_, _<_}
 use native.Mathlib.Omega.{arith}
 use lib.ListN.{length}
 use Rattle.common.specs.Bytes.{Bytes}
-use Rattle.common.specs.First.{Rule, _on_, NoneOf, earlier, not-on, _also_, none-append, none-left, decides-bool, decides-eq, stable}
+use Rattle.common.specs.First.{Rule, _on_, NoneOf, earlier, not-on, _also_, none-append, none-left, none-right, decides-bool, decides-eq, stable}
 use Rattle.common.specs.Decided.{test-false}
 use Rattle.common.specs.Same.{decides-same}
 use Rattle.base64url_rules.specs.Base64url.{encode, strict}
@@ -74,12 +74,13 @@ pub accepted-only : (t T : List ℕ) (hr pr : ℕ) → verifyAnswer t T hr pr �
     → Accepted t T hr pr (headerOf t) (payloadOf t) (recordOf (headerOf t) (payloadOf t) (choiceOf t T))
 accepted-only t T hr pr e =
     let n = verify-clear t T hr pr e in
+    let known = heading (headerOf t) (keys T) in
     let no = not-on (verifying t T hr pr) n in
     let two = stable (decides-eq (periods t) 2) (no 3) in
     let s1 = is-true (strict (front t)) (λ x. no 4 (inl x)) in
     let s2 = is-true (strict (front (back t))) (λ x. no 4 (inr (inl x))) in
     let s3 = is-true (strict (back (back t))) (λ x. no 4 (inr (inr x))) in
-    let c = header-chooses (headerOf t) (keys T) (distinct T (no 2)) (none-left (heading (headerOf t) (keys T)) (after t T) (n .1 .1 .1 .1 .1 .1)) in
+    let c = header-chooses (headerOf t) (keys T) (distinct T (no 2)) (none-left known (after t T) (none-right (earlier (verifying t T hr pr) 7) (known ++ after t T) n)) in
     let signature = stable (decides-same (signatureOf t) _) (λ x. no 15 (choiceOf t T, c, x)) in
     let long : tokenMost < length t → ⊥ = no 1 in
     let header-long : longest < length (headerOf t) → ⊥ = no 5 in
@@ -109,9 +110,10 @@ module _ (h p T : List ℕ) (room : ℕ) where
   pub sign-header : signAnswer h p T room ≡ 0 → (length h ≤ longest) × HeaderChooses h (keys T) (headerChoice h (keys T))
   sign-header e =
       let n = sign-clear h p T room e in
+      let known = heading h (keys T) in
       let no = not-on (signing h p T room) n in
       let long : longest < length h → ⊥ = no 5 in
-      (omega arith, header-chooses h (keys T) (distinct T (no 2)) (none-left (heading h (keys T)) (finished h p room) (n .1 .1)))
+      (omega arith, header-chooses h (keys T) (distinct T (no 2)) (none-left known (finished h p room) (none-right (earlier (signing h p T room) 7) (known ++ finished h p room) n)))
 
   -- what is signed is accepted, whichever buffers it fits
   pub signed-accepted : signAnswer h p T room ≡ 0 → Bytes p → (hr pr : ℕ) → length h ≤ hr → length p ≤ pr

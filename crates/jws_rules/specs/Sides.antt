@@ -6,7 +6,7 @@ use mathlib.Core.List.{List, [], _∷_}
 use Prim.Native.Nat.{ℕ, _≤_, _<_}
 use native.Mathlib.Omega.{arith}
 use lib.ListN.{length}
-use Rattle.common.specs.First.{NoneOf, earlier, _also_}
+use Rattle.common.specs.First.{NoneOf, earlier, not-on, none-right, _also_}
 use Rattle.json_grammar.specs.Reader.{skip, read}
 use Rattle.json_grammar.specs.Unique.{not-derived}
 use Rattle.base64url_rules.specs.Base64url.{encode, decode, alphabetic, unusedBits, strict}
@@ -14,6 +14,7 @@ use Rattle.base64url_rules.specs.LengthLaws.{length-encode}
 use Rattle.hmac.specs.HmacLaws.{length-HMACSHA256}
 use Rattle.json_rules.specs.Rules.{deepest}
 use Rattle.keytable_rules.specs.Table.{Wellformed, keys}
+use Rattle.jose_rules.specs.Header.{heading}
 use Rattle.jose_rules.specs.HeaderLaws.{header-chooses}
 use Rattle.jose_rules.specs.Promises.{distinct}
 use Rattle.jws_rules.specs.Segments.{periods, front, back, period}
@@ -49,7 +50,8 @@ module _ (t T : List ℕ) (hr pr : ℕ) where
   -- "The decoded signature is exactly the 32 MAC bytes, else 15."
   pub signature-refused : NoneOf (earlier (verifying t T hr pr) 15) → (length (signatureOf t) ≡ 32 → ⊥) → verifyAnswer t T hr pr ≡ 15
   signature-refused n k =
-      let c = header-chooses (headerOf t) (keys T) (distinct T (n .1 .0)) (n .1 .1 .1 .1 .1 .1) in
+      let known = none-right (earlier (verifying t T hr pr) 7) (heading (headerOf t) (keys T)) n in
+      let c = header-chooses (headerOf t) (keys T) (distinct T (not-on (earlier (verifying t T hr pr) 15) n 2)) known in
       verify-first t T hr pr 15 refl .1 ((choiceOf t T, c, λ e. k (ap length e ∙ length-HMACSHA256 _ _)), n)
 
 pub header-characters : (h : List ℕ) → length h ≡ 1024 → length (encode h) ≡ 1366

@@ -18,24 +18,20 @@ fn say(s: &[u8]) {
     io::write_all(STDOUT_FILENO, s);
 }
 
-fn number(n: usize) {
+fn field(name: &[u8], n: usize) {
+    say(name);
     io::print_decimal(STDOUT_FILENO, n as u64);
 }
 
 fn print(v: Verified) {
-    if v.answer != 0 {
-        say(b"refused ");
-        number(v.answer as usize);
-        say(b"\n");
-        return;
-    }
     let about = v.about;
-    say(b"accepted key=");
-    number(about.key);
-    say(b" fmt=");
-    number(about.format as usize);
-    say(b" payload=");
-    number(about.payload);
+    if v.answer != 0 {
+        field(b"refused ", v.answer as usize);
+    } else {
+        field(b"accepted key=", about.key);
+        field(b" fmt=", about.format as usize);
+        field(b" payload=", about.payload);
+    }
     say(b"\n");
 }
 

@@ -3,12 +3,7 @@ use borrow.Author.Needs.{needs}
 use Rattle.leaf_ffi.proofs.decoded_words.Statement.{statement}
 use Rattle.leaf_ffi.proofs.decoded_words.Tie as tie
 
-returns : tie.Need-returns
-returns c = rw (c .before .d .given .1)
-
-returns-2 : tie.Need-returns-2
-returns-2 c = rw (c .before .d2 .given .1)
-
 pub decoded-words-spec : {M : Type 1} → statement M
 decoded-words-spec =
-    tie.close (tie.spec (λ c. search needs) (λ c. search needs) (λ c. search needs) returns returns-2 (λ c. search needs))
+    tie.close
+    (tie.spec (λ c. search needs) (λ c. search needs) (λ c. search needs) (λ c. rw (c .before .d .given .1)) (λ c. rw (c .before .d2 .given .1)) (λ c. search needs))

@@ -3,8 +3,5 @@ use borrow.Author.Needs.{needs}
 use Rattle.leaf_ffi.proofs.encoded_words.Statement.{statement}
 use Rattle.leaf_ffi.proofs.encoded_words.Tie as tie
 
-returns : tie.Need-returns
-returns c = rw (c .before .e .given .1)
-
 pub encoded-words-spec : {M : Type 1} → statement M
-encoded-words-spec = tie.close (tie.spec (λ c. search needs) (λ c. search needs) returns (λ c. search needs))
+encoded-words-spec = tie.close (tie.spec (λ c. search needs) (λ c. search needs) (λ c. rw (c .before .e .given .1)) (λ c. search needs))
