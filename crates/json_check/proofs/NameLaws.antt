@@ -1,6 +1,6 @@
 -- Names that stand twice: a law for each way through each function.
 use mathlib.Core.Path.{_≡_, refl, sym, ap, ap₂, _∙_, subst}
-use mathlib.Core.Bool.{Bool, true, false, _||_}
+use mathlib.Core.Bool.{Bool, true, false, _||_, or-true, or-assoc}
 use mathlib.Core.List.{List, [], _∷_}
 use Prim.Native.Nat.{ℕ, zero, suc, _+_, _-_, _≤_, _<_}
 use native.Mathlib.Omega.{arith}
@@ -31,14 +31,6 @@ use Rattle.json_check.specs.Twice.{namesOf, NamesTwice, Fingerprinted, B
 
 -- LISTS OF NAMES
 
-or-true : (a b : Bool) → b ≡ true → a || b ≡ true
-or-true true b e = refl
-or-true false b e = e
-
-or-assoc : (a b c : Bool) → a || (b || c) ≡ (a || b) || c
-or-assoc true b c = refl
-or-assoc false b c = refl
-
 or-swap : (a b c d : Bool) → (a || b) || (c || d) ≡ (b || c) || (a || d)
 or-swap true true c d = refl
 or-swap true false true d = refl
@@ -64,7 +56,7 @@ joins : (n : List ℕ) (b ys : List (List ℕ)) → among n b ≡ false → cros
 unfolding crosses repeated
 joins n b ys e =
     ap (λ (t : Bool). (t || crosses b ys) || (among n ys || repeated ys)) e
-    ∙ or-assoc (crosses b ys) (among n ys) (repeated ys)
+    ∙ sym (or-assoc (crosses b ys) (among n ys) (repeated ys))
     ∙ ap (λ (t : Bool). t || repeated ys) (sym (crosses-more n b ys))
 
 -- a callee's contract at the answer that it gave
@@ -107,7 +99,7 @@ module _ {s a : List ℕ} where
     where
       go : (e : Bool) → eqb i k ≡ e → (i < k → among n b ≡ true) → same n m || among n b ≡ true
       go true e ih = ap (λ (z : Bool). z || among n b) (sym (names-same s q s (getD a i 0) n m h (subst (λ (j : ℕ). NameAt s (getD a j 0) m) (sym (eqb-true i k e)) x)) ∙ t)
-      go false e ih = let z = eqb-false i k e in or-true (same n m) (among n b) (ih (omega arith))
+      go false e ih = let z = eqb-false i k e in ap (λ (t : Bool). same n m || t) (ih (omega arith)) ∙ or-true (same n m)
 
   -- a place past the block may be set
   kept : {k : ℕ} {b : List (List ℕ)} → Block s a k b → (j v : ℕ) → k ≤ j → Block s (set a j v) k b
