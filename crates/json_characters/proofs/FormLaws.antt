@@ -73,27 +73,11 @@ module _ (s : List ℕ) (at b : ℕ) where
   two-row : (x : ℕ) (r : Scan) → charLead b ≡ lead2 → x ≡ b - 0xC0 → ScanAt (readTails 1 0x80 0xBF x) s at r → FormAt b s at r
   two-row x r e f h = row lead2 s at b r e (scan-same (readTwo b) (readTails 1 0x80 0xBF (b - 0xC0)) s at r (two b) (rw f at h))
 
-  three-row : (lo hi x : ℕ) (r : Scan) → charLead b ≡ lead3 lo hi → x ≡ b - 0xE0 → ScanAt (readTails 2 lo hi x) s at r → FormAt b s at r
+  pub three-row : (lo hi x : ℕ) (r : Scan) → charLead b ≡ lead3 lo hi → x ≡ b - 0xE0 → ScanAt (readTails 2 lo hi x) s at r → FormAt b s at r
   three-row lo hi x r e f h = row (lead3 lo hi) s at b r e (scan-same (readThree lo hi b) (readTails 2 lo hi (b - 0xE0)) s at r (three lo hi b) (rw f at h))
 
-  four-row : (lo hi x : ℕ) (r : Scan) → charLead b ≡ lead4 lo hi → x ≡ b - 0xF0 → ScanAt (readTails 3 lo hi x) s at r → FormAt b s at r
+  pub four-row : (lo hi x : ℕ) (r : Scan) → charLead b ≡ lead4 lo hi → x ≡ b - 0xF0 → ScanAt (readTails 3 lo hi x) s at r → FormAt b s at r
   four-row lo hi x r e f h = row (lead4 lo hi) s at b r e (scan-same (readFour lo hi b) (readTails 3 lo hi (b - 0xF0)) s at r (four lo hi b) (rw f at h))
-
-  pub form-E0 : (r : Scan) → b ≡ 0xE0 → ScanAt (readTails 2 0xA0 0xBF 0) s at r → FormAt b s at r
-  unfolding charLead isUnescaped1 within
-  form-E0 r e h = three-row 0xA0 0xBF 0 r (ap charLead e) (omega arith) h
-
-  pub form-ED : (r : Scan) → b ≡ 0xED → ScanAt (readTails 2 0x80 0x9F 0xD) s at r → FormAt b s at r
-  unfolding charLead isUnescaped1 within
-  form-ED r e h = three-row 0x80 0x9F 0xD r (ap charLead e) (omega arith) h
-
-  pub form-F0 : (r : Scan) → b ≡ 0xF0 → ScanAt (readTails 3 0x90 0xBF 0) s at r → FormAt b s at r
-  unfolding charLead isUnescaped1 within
-  form-F0 r e h = four-row 0x90 0xBF 0 r (ap charLead e) (omega arith) h
-
-  pub form-F4 : (r : Scan) → b ≡ 0xF4 → ScanAt (readTails 3 0x80 0x8F 4) s at r → FormAt b s at r
-  unfolding charLead isUnescaped1 within
-  form-F4 r e h = four-row 0x80 0x8F 4 r (ap charLead e) (omega arith) h
 
   pub form-two : (x : ℕ) (r : Scan) → within 0xC2 0xDF b ≡ true → x ≡ b - 0xC0 → ScanAt (readTails 1 0x80 0xBF x) s at r → FormAt b s at r
   unfolding charLead

@@ -1,8 +1,11 @@
 -- `form` meets its contract.
-use mathlib.Core.Path.{sym, _∙_}
+use mathlib.Core.Path.{sym, ap, _∙_}
+use native.Mathlib.Omega.{arith}
 use lib.Dec.{lit≤, lit<}
 use borrow.Author.Needs.{needs}
-use Rattle.json_characters.proofs.FormLaws.{lead-low, lead-bits, form-two, form-three, form-four, form-E0, form-ED, form-F0, form-F4, form-none}
+use Rattle.json_grammar.specs.Bytes.{within}
+use Rattle.json_grammar.specs.Reader.{isUnescaped1, charLead}
+use Rattle.json_characters.proofs.FormLaws.{lead-low, lead-bits, three-row, four-row, form-two, form-three, form-four, form-none}
 use Rattle.json_characters.proofs.utf8.form.Statement.{statement}
 use Rattle.json_characters.proofs.utf8.form.Tie as tie
 
@@ -28,6 +31,7 @@ returns-8 c =
     form-none _ _ _ (l .before .before .pre .1) (l .before .before .pre .2) (sym (l .between .ensures) ∙ k .before .before .if1 .left) (k .before .if2 .left) (k .if3 .left) (sym (e .before .before .between2 .ensures) ∙ e .before .if4 .left) (e .if5 .left) (c .before .before .if6 .left) (sym (c .before .between3 .ensures) ∙ c .if7 .left)
 
 pub form-spec : {M : Type 1} → statement M
+unfolding charLead isUnescaped1 within
 form-spec =
     tie.close
     (tie.spec
@@ -35,14 +39,14 @@ form-spec =
     (λ c κs. tt)
     tails-requires
     (λ c. form-two _ _ _ _ _ (sym (c .before .before .before .between .ensures) ∙ c .before .before .if1 .taken) (c .before .wide .ensures .0) (c .tails .ensures))
-    (λ c κs. search needs) (λ c. form-E0 _ _ _ _ (c .before .if2 .taken) (c .tails2 .ensures))
-    (λ c κs. search needs) (λ c. form-ED _ _ _ _ (c .before .if3 .taken) (c .tails3 .ensures))
+    (λ c κs. search needs) (λ c. three-row _ _ _ 0xA0 0xBF _ _ (ap charLead (c .before .if2 .taken)) (omega arith) (c .tails2 .ensures))
+    (λ c κs. search needs) (λ c. three-row _ _ _ 0x80 0x9F _ _ (ap charLead (c .before .if3 .taken)) (omega arith) (c .tails3 .ensures))
     (λ c κs. tt) (λ c. lead-low 0xE0 _ _ _ (lit≤ tt) (sym (c .before .between2 .ensures) ∙ c .if4 .taken))
     (λ c κs. tt)
     tails-requires-4
     returns-4
-    (λ c κs. search needs) (λ c. form-F0 _ _ _ _ (c .before .if5 .taken) (c .tails5 .ensures))
-    (λ c κs. search needs) (λ c. form-F4 _ _ _ _ (c .before .if6 .taken) (c .tails6 .ensures))
+    (λ c κs. search needs) (λ c. four-row _ _ _ 0x90 0xBF _ _ (ap charLead (c .before .if5 .taken)) (omega arith) (c .tails5 .ensures))
+    (λ c κs. search needs) (λ c. four-row _ _ _ 0x80 0x8F _ _ (ap charLead (c .before .if6 .taken)) (omega arith) (c .tails6 .ensures))
     (λ c κs. tt) (λ c. lead-low 0xF0 _ _ _ (lit≤ tt) (sym (c .before .between3 .ensures) ∙ c .if7 .taken))
     (λ c κs. tt)
     tails-requires-7
