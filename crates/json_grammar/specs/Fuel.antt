@@ -13,7 +13,7 @@ use Rattle.json_grammar.specs.Reader.{Got, bad, got, then, over, one-by,
 use Rattle.json_grammar.specs.Reader.{value-by, readValue, readMoreElements, readMoreMembers}
 use Rattle.json_grammar.specs.ReaderLaws.{no-bad}
 use Rattle.json_grammar.specs.Sequences.{Sequence, listed, members, elements, list-inv, more-inv, member-inv}
-use Rattle.json_grammar.specs.Levels.{readBare, readElements, readMember, readMembers}
+use Rattle.json_grammar.specs.Levels.{readBare, readMember, readMembers}
 use Rattle.json_grammar.specs.CharLaws.{chars-fuel}
 use Rattle.json_grammar.specs.Endings.{Ending, shorter-ending, ending-of, ending-byte, ending-ws, value-read, chars-leave, colon-ends}
 

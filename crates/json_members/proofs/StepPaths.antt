@@ -7,7 +7,7 @@ use lib.ListN.{length, drop, getD, length-drop, drop-of-length-le}
 use borrow.Author.Tests.{eq-eqb, ne-eqb}
 use Rattle.json_grammar.specs.Value.{LValue, LItem, LMember, item, named, plain}
 use Rattle.json_grammar.specs.Places.{kindOf, margin, pos, Kind as Kinds}
-use Rattle.json_grammar.specs.Reader.{Got, bad, got, then, over, expect, ws, placedItem, readChars, readValue, valueLead}
+use Rattle.json_grammar.specs.Reader.{Got, got, then, over, expect, ws, placedItem, readChars, readValue, valueLead}
 use Rattle.json_grammar.specs.ReaderLaws.{expect-over}
 use Rattle.json_grammar.specs.Levels.{readMember}
 use Rattle.json_grammar.specs.ByteLaws.{by-byte}

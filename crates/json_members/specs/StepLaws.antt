@@ -10,7 +10,7 @@ use borrow.Author.Tests.{eqb-true}
 use lib.ListN.{length, take, drop, getD, length-drop}
 use Rattle.json_grammar.specs.Value.{LValue, LItem, LItems, LMember, LMembers, stringL, numberL, trueL, falseL, nullL, arrayL, objectL, item, icons, named, lcons, plain}
 use Rattle.json_grammar.specs.Places.{stringK, numberK, trueK, falseK, nullK, arrayK, objectK, kindOf, margin, pos, Kind as Kinds}
-use Rattle.json_grammar.specs.Reader.{Got, bad, got, deeper, ws, word, upTo, value-by, readChars, readNumber, pastNumber, readValue, readMoreMembers, readMoreElements, readObject, read}
+use Rattle.json_grammar.specs.Reader.{Got, bad, got, deeper, ws, word, upTo, value-by, readChars, readNumber, pastNumber, readValue, readMoreMembers, readMoreElements, readObject}
 use Rattle.json_grammar.specs.Reader.{ValueLead, quoteLead, bracketLead, braceLead, trueLead, falseLead, nullLead, numberLead, valueLead}
 use Rattle.json_grammar.specs.ReaderLaws.{no-bad, then-inv, over-inv, read-inv}
 use Rattle.json_grammar.specs.Sequences.{Sequence, listed, members, elements, list-inv, list-out, MemberRead, member-inv}
