@@ -1,3 +1,2 @@
--- What the inner functions answer: how a token is judged, and how one is made.
+-- What the inner functions answer: how a token is judged.
 pub mod Judging
-pub mod Written

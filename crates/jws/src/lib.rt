@@ -1,14 +1,11 @@
-// Compact tokens (RFC 7515 section 7.1) with HS256: verifying, signing, and the payload.
-mod limits; // limits.rt: the longest token
+// Compact tokens (RFC 7515 section 7.1) with HS256: verifying, and the payload.
 mod judging; // judging.rt: the rules of verifying, phase by phase
-mod making; // making.rt: a token in a lent buffer
 
 ghost use mathlib.Core.Path.{_≡_};
 ghost use lib.ListN.{length};
-ghost use Rattle.jws_rules.specs.Outcomes.{given, handed, payload};
-ghost use Rattle.jws_rules.specs.Tests.{verified, signed};
+ghost use Rattle.jws_rules.specs.Outcomes.{given, payload};
+ghost use Rattle.jws_rules.specs.Tests.{verified};
 pub use jws_rules::Record;
-pub use jws_rules::Signed;
 pub use jws_rules::Verified;
 
 // Verifies a token. Past what the record speaks of each buffer is cleared: whole on a refusal, since its record is zeros.
@@ -22,18 +19,6 @@ pub fn verify(token: &[u8], table: &[u8], header: &mut [u8], payload: &mut [u8])
     common::zero(&mut header[n..]);
     common::zero(&mut payload[m..]);
     v
-}
-
-// Makes the token of a header and a payload, under the key of the table that the header chooses. Past the token the buffer is cleared:
-// whole on a refusal, whose length is 0. Rules out a signer that refuses everything, a MAC over less than header and payload, and a
-// buffer left as it was on a refusal.
-pub fn sign(header: &[u8], payload: &[u8], table: &[u8], token: &mut [u8]) -> Signed
-    ensures { λ r. ⌜ handed r (now (token .exit)) ≡ signed (now (header .entry)) (now (payload .entry)) (now (table .entry)) (length (now (token .entry))) ⌝ }
-{
-    let result = making::make(header, payload, table, token);
-    let n = result.length;
-    common::zero(&mut token[n..]);
-    result
 }
 
 // The payload as a part of the buffer that verifying filled; an empty part if the record's length doesn't fit.

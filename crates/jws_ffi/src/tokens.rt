@@ -59,7 +59,7 @@ pub extern "C" fn jws_sign(
 ) -> u8
     ensures { λ r. ⌜ signCall r (now (size .exit)) (now (token .exit)) ≡ signWords (signed (now (header .entry)) (now (payload .entry)) (now (table .entry)) (length (now (token .entry)))) ⌝ }
 {
-    let s = jws::sign(header, payload, table, token);
+    let s = jws_signing::sign(header, payload, table, token);
     *size = s.length as u64;
     s.answer
 }

@@ -3,9 +3,9 @@ use native.Mathlib.Omega.{arith}
 use borrow.Author.Needs.{needs}
 use Rattle.base64url_rules.specs.Base64url.{encode}
 use Rattle.base64url_rules.specs.LengthLaws.{length-encode}
-use Rattle.jws.proofs.FrontLaws.{text-front, front-more}
-use Rattle.jws.proofs.making.signing_input.Statement.{statement}
-use Rattle.jws.proofs.making.signing_input.Tie as tie
+use Rattle.jws_signing.proofs.FrontLaws.{text-front, front-more}
+use Rattle.jws_signing.proofs.making.signing_input.Statement.{statement}
+use Rattle.jws_signing.proofs.making.signing_input.Tie as tie
 
 segment-requires : tie.Need-segment-requires
 segment-requires c κs =

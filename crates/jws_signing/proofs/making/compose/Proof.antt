@@ -3,9 +3,9 @@ use native.Mathlib.Omega.{arith}
 use borrow.Author.Needs.{needs}
 use Rattle.base64url_rules.specs.Base64url.{encode}
 use Rattle.jws_rules.specs.SegmentLaws.{length-dot}
-use Rattle.jws.proofs.FrontLaws.{length-text, token-laid}
-use Rattle.jws.proofs.making.compose.Statement.{statement}
-use Rattle.jws.proofs.making.compose.Tie as tie
+use Rattle.jws_signing.proofs.FrontLaws.{length-text, token-laid}
+use Rattle.jws_signing.proofs.making.compose.Statement.{statement}
+use Rattle.jws_signing.proofs.making.compose.Tie as tie
 
 part-hmac-sha256-end : tie.Need-part-hmac-sha256-end
 part-hmac-sha256-end c =

@@ -7,10 +7,10 @@ use borrow.Author.Needs.{needs}
 use Rattle.base64url_rules.specs.LengthLaws.{encoded-length}
 use Rattle.jws_rules.specs.Token.{tokenOf, finishedLength}
 use Rattle.jws_rules.specs.TokenLaws.{length-token}
-use Rattle.jws.proofs.SignLaws.{finished-size, payload-long, too-long, too-short, fitting}
-use Rattle.jws.proofs.WrittenLaws.{refuse, hand}
-use Rattle.jws.proofs.making.finish.Statement.{statement}
-use Rattle.jws.proofs.making.finish.Tie as tie
+use Rattle.jws_signing.proofs.SignLaws.{finished-size, payload-long, too-long, too-short, fitting}
+use Rattle.jws_signing.proofs.WrittenLaws.{refuse, hand}
+use Rattle.jws_signing.proofs.making.finish.Statement.{statement}
+use Rattle.jws_signing.proofs.making.finish.Tie as tie
 
 returns : tie.Need-returns
 returns c =

@@ -9,7 +9,7 @@ use Rattle.common.specs.Buffer.{filled, laid}
 use Rattle.common.specs.Laid.{cleared-from, take-laid}
 use Rattle.jws_rules.specs.declared.Signed.{Signed}
 use Rattle.jws_rules.specs.Outcomes.{SignOutcome, handed, unsigned, signedAs}
-use Rattle.jws.specs.Written.{Written, unsignedResult}
+use Rattle.jws_signing.specs.Written.{Written, unsignedResult}
 
 -- what the outer function hands back
 pub settled : (outcome : SignOutcome) (token₀ token z : List ℕ) {r : Signed} → Written outcome token₀ r token

@@ -4,11 +4,11 @@ use mathlib.Core.List.{List}
 use Prim.Native.Nat.{ℕ}
 use lib.ListN.{length}
 use borrow.Author.Needs.{needs}
-use Rattle.jws.specs.Written.{finished}
-use Rattle.jws.proofs.SignLaws.{Passed, head-refuses, head-passes}
-use Rattle.jws.proofs.WrittenLaws.{refuse, same-outcome}
-use Rattle.jws.proofs.making.make.Statement.{statement}
-use Rattle.jws.proofs.making.make.Tie as tie
+use Rattle.jws_signing.specs.Written.{finished}
+use Rattle.jws_signing.proofs.SignLaws.{Passed, head-refuses, head-passes}
+use Rattle.jws_signing.proofs.WrittenLaws.{refuse, same-outcome}
+use Rattle.jws_signing.proofs.making.make.Statement.{statement}
+use Rattle.jws_signing.proofs.making.make.Tie as tie
 
 -- what is known once the header and the table chose a key
 chosen : (d : tie.After-decision2) → let a = d .before .before .before .before .before .before .before .args in

@@ -2,9 +2,9 @@
 use lib.ListN.{length}
 use borrow.Author.Needs.{needs}
 use Rattle.jws_rules.specs.Tests.{signed}
-use Rattle.jws.proofs.WrittenLaws.{settled}
-use Rattle.jws.proofs.sign.Statement.{statement}
-use Rattle.jws.proofs.sign.Tie as tie
+use Rattle.jws_signing.proofs.WrittenLaws.{settled}
+use Rattle.jws_signing.proofs.sign.Statement.{statement}
+use Rattle.jws_signing.proofs.sign.Tie as tie
 
 returns : tie.Need-returns
 returns c =

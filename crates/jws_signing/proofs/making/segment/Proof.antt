@@ -4,9 +4,9 @@ use native.Mathlib.Omega.{arith}
 use lib.ListN.{length-set}
 use borrow.Author.Needs.{needs}
 use Rattle.base64url_rules.specs.LengthLaws.{length-encode}
-use Rattle.jws.proofs.FrontLaws.{segment-front}
-use Rattle.jws.proofs.making.segment.Statement.{statement}
-use Rattle.jws.proofs.making.segment.Tie as tie
+use Rattle.jws_signing.proofs.FrontLaws.{segment-front}
+use Rattle.jws_signing.proofs.making.segment.Statement.{statement}
+use Rattle.jws_signing.proofs.making.segment.Tie as tie
 
 returns : tie.Need-returns
 returns c =

@@ -18,7 +18,7 @@ use Rattle.hmac.specs.Hmac.{HMACSHA256}
 use Rattle.jws_rules.specs.Segments.{period, _dot_}
 use Rattle.jws_rules.specs.SegmentLaws.{length-dot}
 use Rattle.jws_rules.specs.Token.{tokenOf}
-use Rattle.jws.specs.Written.{Front}
+use Rattle.jws_signing.specs.Written.{Front}
 
 -- the text of s in a buffer that has room for it
 text-laid : (s out : List ℕ) {r : Encoded} {buffer : List ℕ} → encodedTo r buffer ≡ encoding s out → length (encode s) ≤ length out → buffer ≡ laid (encode s) out

@@ -24,7 +24,7 @@ use Rattle.jws_rules.specs.Outcomes.{unsigned, signedAs}
 use Rattle.jws_rules.specs.RuleLaws.{settle-bad}
 use Rattle.jws_rules.specs.Tests.{signTests, signed}
 use Rattle.jws_rules.specs.Token.{tokenMost, tokenOf, finishedLength}
-use Rattle.jws.specs.Written.{lengthTests, finished}
+use Rattle.jws_signing.specs.Written.{lengthTests, finished}
 
 -- THE FINISHED LENGTH
 

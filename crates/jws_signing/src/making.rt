@@ -9,10 +9,10 @@ ghost use Rattle.json_rules.specs.Rules.{longest};
 ghost use Rattle.jws_rules.specs.Segments.{_dot_};
 ghost use Rattle.jws_rules.specs.Token.{tokenOf, finishedLength};
 ghost use Rattle.jws_rules.specs.Tests.{signed};
-ghost use Rattle.jws.specs.Written.{Front, Written, unsignedResult, finished};
-use crate::limits::TOKEN_MOST;
+ghost use Rattle.jws_signing.specs.Written.{Front, Written, unsignedResult, finished};
 use jose_rules::Decision;
 use jws_rules::Signed;
+use jws_rules::TOKEN_MOST;
 
 // A further segment: a period at `at`, and then the text of the bytes. The answer is the place after it.
 fn segment(alphabet: &[u8; 64], bytes: &[u8], token: &mut [u8], at: usize) -> usize

@@ -1,2 +1,0 @@
-// The longest token.
-pub(crate) const TOKEN_MOST: usize = 16384;
