@@ -5,3 +5,4 @@ pub mod Utf8
 pub mod Utf8Laws
 pub mod CharacterLaws
 pub mod Steps
+pub mod Octets

@@ -1,15 +1,13 @@
--- What the private functions' contracts cite: parts of a character at places of a slice; and the octets of a code point.
+-- What the private functions' contracts cite: parts of a character at places of a slice.
 use mathlib.Core.Path.{_≡_}
 use mathlib.Core.Bool.{Bool}
 use mathlib.Core.List.{List}
 use Prim.Native.Nat.{ℕ, zero, suc, _+_, _-_, _*_, _≤_}
-use lib.ListN.{length, drop, take}
+use lib.ListN.{length, drop}
 use Rattle.json_grammar.specs.Bytes.{within}
 use Rattle.json_grammar.specs.Reader.{Got, got, one, char-by, charLead, escape-by, escapeLeadOf}
 use Rattle.json_characters.specs.Characters.{Scans}
-use Rattle.json_characters.specs.Utf8.{octets}
 use Rattle.json_characters.specs.declared.Scan.{Scan}
-use Rattle.json_characters.specs.declared.utf8.Octets.{Octets}
 
 -- r is what the reader f gives at a place
 unfoldable pub ScanAt : (List ℕ → Got ℕ) → List ℕ → ℕ → Scan → Type 0
@@ -31,9 +29,3 @@ FormAt b s at r = ScanAt (char-by (charLead b) b) s at r
 -- r is what a `\` and the byte b stand for, up to the place `next`
 unfoldable pub ShortEscape : ℕ → ℕ → Scan → Type 0
 ShortEscape b next r = (s : List ℕ) → next ≤ length s → Scans s next r (escape-by (escapeLeadOf b) (drop next s))
-
--- o has the octets of c
-pub record OctetsOf (c : ℕ) (o : Octets) : Type 0 where
-  pub few : o .count ≤ 4
-  pub long : o .count ≡ length (octets c)
-  pub are : take (o .count) (o .bytes) ≡ octets c

@@ -4,7 +4,8 @@ ghost use mathlib.Core.Bool.{false};
 ghost use Prim.Native.Nat.{_<_, _≤_};
 ghost use lib.ListN.{length};
 ghost use Rattle.json_grammar.specs.Reader.{isUnescaped1};
-ghost use Rattle.json_characters.specs.Steps.{ScanAt, readTails, FormAt, OctetsOf};
+ghost use Rattle.json_characters.specs.Octets.{octetsIn};
+ghost use Rattle.json_characters.specs.Steps.{ScanAt, readTails, FormAt};
 ghost use Rattle.json_characters.specs.Utf8.{tail};
 use crate::Scan;
 use crate::classes::between;
@@ -87,10 +88,10 @@ fn tail_octet(x: u32) -> u8
     octet(0x80 + x % 64)
 }
 
-// The octets of a code point. Rules out a form that is longer than it need be, and a first octet that names another count.
+// The octets of a code point, and then zeros. Rules out a form that is longer than it need be, and a first octet that names another count.
 pub fn octets_of(c: u32) -> Octets
     requires { ⌜ c ≤ 0x10FFFF ⌝ }
-    ensures { λ r. ⌜ OctetsOf c r ⌝ }
+    ensures { λ r. ⌜ r ≡ octetsIn c ⌝ }
 {
     if c <= 0x7F {
         return Octets {

@@ -10,6 +10,7 @@ use Rattle.json_characters.specs.Utf8.{octets}
 use Rattle.json_string.specs.Steps.{Writes}
 use Rattle.json_characters.specs.CharacterLaws.{scanned, char-after, char-most}
 use Rattle.json_string.specs.TextLaws.{text-out, text-wrong}
+use Rattle.json_characters.specs.Octets.{octets-in}
 use Rattle.json_string.proofs.OctetLaws.{prefix-fits}
 use Rattle.json_string.proofs.WriteLaws.{Front, front-none, front-more, front-writes, writes-none, writes-quote, too-long, writes-long, writes-more}
 use borrow.Author.Needs.{needs}
@@ -48,22 +49,22 @@ returns-3 c =
     let e = c .before .before .before .before in
     let k = e .before .before .before in
     let l = k .before .before .before in
-    l .loop .inv .1 _ _ (writes-long _ _ (k .before .before .loop-test .taken) _ (k .if1 .left) _ _ _ _ (scanned _ _ _ _ (e .before .before .char-at .ensures) (e .c .given .1)) (too-long _ _ (octets (e .c .given .0 .0)) _ _ (l .loop .inv .0) (c .before .before .octets-of .ensures .long) (c .if2 .taken)))
+    l .loop .inv .1 _ _ (writes-long _ _ (k .before .before .loop-test .taken) _ (k .if1 .left) _ _ _ _ (scanned _ _ _ _ (e .before .before .char-at .ensures) (e .c .given .1)) (too-long _ _ (octets (e .c .given .0 .0)) _ _ (l .loop .inv .0) (octets-in (c .before .before .octets-of .ensures) .long) (c .if2 .taken)))
 
 array-share-prefix-bytes : tie.Need-array-share-prefix-bytes Inv-loop μ-loop
 array-share-prefix-bytes c =
     let e = c .before .before .before in
-    prefix-fits _ _ _ (e .octets-of .ensures .are) (e .octets-of .ensures .long)
+    prefix-fits _ _ _ (octets-in (e .octets-of .ensures) .are) (octets-in (e .octets-of .ensures) .long)
 
 slice-aggregate-copy-at : tie.Need-slice-aggregate-copy-at Inv-loop μ-loop
 slice-aggregate-copy-at c =
     let e = c .before .before .before .before in
-    e .octets-of .ensures .long ∙ sym (ap length (e .octets-of .ensures .are))
+    octets-in (e .octets-of .ensures) .long ∙ sym (ap length (octets-in (e .octets-of .ensures) .are))
 
 copy-at-requires : tie.Need-copy-at-requires Inv-loop μ-loop
 copy-at-requires c κs =
     let e = c .before .before .before .before in
-    omega (arith, e .octets-of .ensures .long, ap length (e .octets-of .ensures .are))
+    omega (arith, octets-in (e .octets-of .ensures) .long, ap length (octets-in (e .octets-of .ensures) .are))
 
 add-n : tie.Need-add-n Inv-loop μ-loop
 add-n c =
@@ -82,7 +83,7 @@ loop-again c =
     let n = m .before .before .before in
     let p = n .before .before .before in
     let l = p .loop in
-    let o = k .before .before .octets-of .ensures in
+    let o = octets-in (k .before .before .octets-of .ensures) in
     let x = scanned _ _ _ _ (m .before .before .char-at .ensures) (m .c .given .1) in
     let b = octets (m .c .given .0 .0) in
     let e = c .before .before .copy-at .ensures ∙ ap (λ (b : List ℕ). paste (l .out) (l .n) b (length b)) (o .are) in
