@@ -1,6 +1,6 @@
 // Encoding bytes into a buffer that has room for their text.
 ghost use mathlib.Core.Path.{_≡_};
-ghost use mathlib.Core.List.{List, [], _∷_};
+ghost use mathlib.Core.List.{[], _∷_};
 ghost use Prim.Native.Nat.{_<_, _≤_, _%_};
 ghost use lib.ListN.{length};
 ghost use Rattle.base64url_rules.specs.Base64url.{encode, encodedLength};

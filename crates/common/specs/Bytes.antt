@@ -1,9 +1,8 @@
 -- Lists of bytes: every element is below 256. A slice's contents always are.
-use mathlib.Core.Path.{_≡_}
 use mathlib.Core.List.{List, [], _∷_, _++_}
 use Prim.Native.Nat.{ℕ, zero, suc, _<_}
 use native.Mathlib.Omega.{arith}
-use lib.ListN.{getD, take, drop, replicate, length}
+use lib.ListN.{getD, take, drop}
 
 pub data Bytes : List ℕ → Type 0 where
   none : Bytes []

@@ -1,7 +1,5 @@
 -- The definition, run on texts at both ends, one beyond each, at -0, and on texts that are no integer's.
 use mathlib.Core.Path.{_≡_, refl}
-use mathlib.Core.List.{List, [], _∷_}
-use Prim.Native.Nat.{ℕ}
 use Prim.Native.String.{String}
 use lib.IntN.{ℤ, pos, negℤ}
 use Rattle.common.specs.Ascii.{ascii}

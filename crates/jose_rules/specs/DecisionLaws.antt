@@ -1,6 +1,6 @@
 -- What a decision says: the number is that of the first rule that refuses; where none does, the choice is the header's, and its key is one of the keys.
 use mathlib.Core.Path.{_≡_, refl, sym, _∙_}
-use mathlib.Core.Bool.{Bool, true, false, cond, true≢false}
+use mathlib.Core.Bool.{false, cond, true≢false}
 use mathlib.Core.List.{List, _∷_}
 use mathlib.Core.Option.{Option, none, some}
 use Prim.Native.Nat.{ℕ, zero, suc, _<_}
@@ -15,7 +15,6 @@ use Rattle.keytable_rules.specs.Key.{Key, find, only}
 use Rattle.keytable_rules.specs.KeyLaws.{found, only-found}
 use Rattle.keytable_rules.specs.Table.{badTable, keys}
 use Rattle.jose_rules.specs.declared.Choice.{Choice}
-use Rattle.jose_rules.specs.declared.Decision.{Decision}
 use Rattle.jose_rules.specs.declared.Decision.the-variants.{Refused, Chosen}
 use Rattle.jose_rules.specs.Names.{kid}
 use Rattle.jose_rules.specs.Members.{string}

@@ -1,8 +1,7 @@
 -- The rules of a header's bytes, answers 7 to 14, by the derivations of these bytes; and what a header decides. No parser is mentioned.
 use mathlib.Core.Path.{_≡_}
 use mathlib.Core.Logic.{_⊎_}
-use mathlib.Core.Bool.{false}
-use mathlib.Core.List.{List, [], _∷_, _++_, map}
+use mathlib.Core.List.{List, _++_, map}
 use Prim.Native.Nat.{ℕ, _-_, _≤_}
 use Rattle.common.specs.First.{Rule, _on_, NoneOf, condition, numbers}
 use Rattle.json_grammar.specs.Twice.{TwiceNamed}

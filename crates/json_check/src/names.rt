@@ -6,7 +6,6 @@ use json_string::fingerprint;
 use json_string::same_by_fingerprint;
 use json_string::string_end;
 use json_tokens::skip_ws;
-ghost use mathlib.Core.Path.{_≡_};
 ghost use Prim.Native.Nat.{_≤_, _<_};
 ghost use lib.ListN.{length};
 ghost use Rattle.json_check.specs.Twice.{NamesTwice, Fingerprinted, Meets, Searched, ObjectTwice, TwiceFrom};

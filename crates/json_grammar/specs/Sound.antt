@@ -9,8 +9,8 @@ use Rattle.json_grammar.specs.Bytes.{isWs}
 use Rattle.json_grammar.specs.Value.{depth, depthValues, depthMembers, LValue, LItem, LItems, LMembers, stringL, numberL, trueL, falseL, nullL}
 use Rattle.json_grammar.specs.Value.{arrayL, objectL}
 use Rattle.json_grammar.specs.Grammar.{none, Ws, Token, Chars, ValueTree, falseT, nullT, trueT, objectT, arrayT, numberT, stringT}
-use Rattle.json_grammar.specs.Grammar.{ObjectTree, object0, objectOf, MemberTree, pair, MembersTail, mend, mmore, ArrayTree, array0, arrayOf}
-use Rattle.json_grammar.specs.Grammar.{ElementsTail, eend, emore, Derivation}
+use Rattle.json_grammar.specs.Grammar.{ObjectTree, object0, objectOf, pair, mend, mmore, ArrayTree, array0, arrayOf}
+use Rattle.json_grammar.specs.Grammar.{eend, emore, Derivation}
 use Rattle.json_grammar.specs.Grammar.{yieldMany, yieldToken, yieldChars, yieldString, yieldNumber, yieldValue, yieldObject, yieldMember}
 use Rattle.json_grammar.specs.Grammar.{yieldMembers, yieldArray, yieldElements, bytes}
 use Rattle.json_grammar.specs.Grammar.{readingValue, readingObject, readingMember, readingMembers, readingArray, readingElements, readingOf}

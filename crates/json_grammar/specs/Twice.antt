@@ -6,7 +6,7 @@ use Prim.Native.Nat.{ℕ, zero, suc, _<_}
 use native.Mathlib.Omega.{arith}
 use lib.ListN.{length, getD}
 use Rattle.common.specs.First.{Decides, fails, decides-or, decides-iff}
-use Rattle.common.specs.Same.{same, decides-same}
+use Rattle.common.specs.Same.{decides-same}
 use Rattle.json_grammar.specs.Value.{Value, Values, Members, stringV, numberV, trueV, falseV, nullV, arrayV, objectV, vnil, vcons, mnil, mcons, among, repeated, names, twice, twiceValues, twiceMembers}
 
 -- two of these names, at different places, are equal

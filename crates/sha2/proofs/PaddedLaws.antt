@@ -1,10 +1,10 @@
 -- The last blocks of a message: its last bytes and the padding, as they are written into a buffer of zeros.
 use mathlib.Core.Path.{_≡_, refl, ap, sym, _∙_}
-use mathlib.Core.List.{List, [], _∷_, _++_, append-assoc}
+use mathlib.Core.List.{List, _∷_, _++_, append-assoc}
 use Prim.Native.Nat.{ℕ, zero, suc, _+_, _-_, _*_, _/_, _%_, _^_, _≤_, _<_}
 use native.Mathlib.Nat.{zero-add, mul-assoc, pow-succ', mod-add-div}
 use native.Mathlib.Omega.{arith}
-use lib.ListN.{length, take, drop, set, replicate, length-append, length-replicate}
+use lib.ListN.{length, take, set, replicate, length-append, length-replicate}
 use lib.Seq.{paste, take-length, take-append-add, take-paste, take-all, set-append-seam}
 use Rattle.common.specs.BigEndian.{bigEndian, length-bigEndian}
 use Rattle.common.specs.Buffer.{take-replicate, drop-replicate}

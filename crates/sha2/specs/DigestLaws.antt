@@ -1,7 +1,7 @@
 -- A digest's length, and that it is a list of bytes.
 use mathlib.Core.Path.{_≡_, sym, _∙_}
-use mathlib.Core.List.{List, _++_}
-use Prim.Native.Nat.{ℕ, zero, suc, _+_, _*_, _/_}
+use mathlib.Core.List.{List}
+use Prim.Native.Nat.{ℕ, zero, suc, _*_, _/_}
 use native.Mathlib.Nat.{zero-mul, suc-mul}
 use lib.ListN.{length, getD, length-append}
 use Rattle.common.specs.Bytes.{Bytes, none, bytes-append}

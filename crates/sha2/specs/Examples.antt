@@ -1,6 +1,6 @@
 -- Worked examples of SHA-256, computed from the definition: "abc" (the one-block example that NIST publishes beside FIPS 180-4) and the empty message.
 use mathlib.Core.Path.{_≡_, refl}
-use mathlib.Core.List.{List, [], _∷_}
+use mathlib.Core.List.{[], _∷_}
 use Rattle.common.specs.BigEndian.{bigEndian}
 use Rattle.sha2_compression.specs.Parameters.{K, H0}
 use Rattle.sha2_compression.specs.Compression.{nextWord, schedule, round, rounds, sums, compressed}

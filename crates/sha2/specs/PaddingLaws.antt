@@ -1,12 +1,12 @@
 -- The padding fills the last block, with the fewest zeros (FIPS 180-4, section 5.1.1).
 use mathlib.Core.Path.{_≡_, _∙_}
-use mathlib.Core.List.{_∷_, _++_}
+use mathlib.Core.List.{_∷_}
 use Prim.Native.Nat.{ℕ, _+_, _-_, _*_, _%_, _≤_}
 use native.Mathlib.Omega.{arith}
 use lib.ListN.{length, replicate, length-append, length-replicate}
 use Rattle.common.specs.BigEndian.{bigEndian, length-bigEndian}
 use Rattle.sha2_compression.specs.Parameters.{Parameters, sha-256}
-use Rattle.sha2.specs.Hash.{blockBytes, lengthBytes, zeros, padding}
+use Rattle.sha2.specs.Hash.{lengthBytes, zeros, padding}
 
 pub length-padding : (P : Parameters) (n : ℕ) → length (padding P n) ≡ 1 + zeros P n + lengthBytes P
 unfolding padding

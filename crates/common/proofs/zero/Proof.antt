@@ -4,7 +4,6 @@ use mathlib.Core.List.{List, [], _∷_, _++_}
 use Prim.Native.Nat.{ℕ, _≤_, _-_, _+_}
 use native.Mathlib.Numerals.{add-one}
 use native.Mathlib.Omega.{arith}
-use borrow.Author.Needs.{needs}
 use lib.ListN.{length, take, set, length-set, replicate, replicate-append-replicate}
 use lib.Seq.{take-suc-set, take-all}
 use Rattle.common.proofs.zero.Statement.{statement}

@@ -119,7 +119,7 @@ pub +arrays·array+arrays·elements+objects·after-name+objects·member+objects�
     (λ c. omega arith) (λ c κs. tt) (λ c. search needs)
     (λ c κs. omega (arith, law.string-bounds _ _ _ (rw (c .before .q .given .1) at (c .before .before .before .string-end .ensures))))
     (λ c. search needs)
-    (λ c. law.member-is _ (c .before .before .before .before .before .before .before .if1 .left) (c .before .before .before .before .before .if2 .left) (rw (c .before .before .q .given .1) at (c .before .before .before .before .string-end .ensures)) (c .after-name .ensures))
+    (λ c. let e = c .before .before .before .before .before in law.member-is _ (e .before .before .if1 .left) (e .if2 .left) (rw (c .before .before .q .given .1) at (c .before .before .before .before .string-end .ensures)) (c .after-name .ensures))
     (λ c. law.member-name-bad _ (c .before .before .before .before .before .if1 .left) (c .before .before .before .if2 .left) (rw (c .enum-told .given .1) at (c .before .before .string-end .ensures))))
     -- member_list
     (λ t. member-list-lts.spec (called 0 member.Pre t, member.Post, skip-ws-reads.Asked, skip-ws-reads.Learnt)
@@ -166,7 +166,7 @@ pub +arrays·array+arrays·elements+objects·after-name+objects·member+objects�
     (λ c. omega arith) (λ c. search needs) (λ c κs. omega arith)
     (λ c. bare-is _ (law.bare-null _ (c .before .before .before .before .before .before .before .before .before .if1 .left) (c .before .before .if7 .taken) (c .word-end3 .ensures)))
     (λ c κs. omega arith)
-    (λ c. bare-is _ (law.bare-number _ (c .before .before .before .before .before .before .before .before .if1 .left) (c .before .before .before .before .before .before .if2 .left) (c .before .before .before .before .before .if3 .left) (c .before .before .before .before .if4 .left) (c .before .before .before .if5 .left) (c .before .before .if6 .left) (c .before .if7 .left) (c .number-end .ensures))))
+    (λ c. let e = c .before .before .before .before .before in bare-is _ (law.bare-number _ (e .before .before .before .if1 .left) (e .before .if2 .left) (e .if3 .left) (c .before .before .before .before .if4 .left) (c .before .before .before .if5 .left) (c .before .before .if6 .left) (c .before .if7 .left) (c .number-end .ensures))))
     -- value
     λ t. value-lts.spec (skip-ws-reads.Asked, skip-ws-reads.Learnt, called 0 bare.Pre t, bare.Post)
     (entered 1 value.Pre t)

@@ -1,9 +1,5 @@
 -- `entry_byte`: the entry lies within the table.
-use mathlib.Core.Path.{ap}
-use Prim.Native.Nat.{_+_}
 use native.Mathlib.Omega.{arith}
-use lib.ListN.{getD}
-use borrow.Author.Needs.{needs}
 use Rattle.keytable_rules.specs.TableLaws.{entry}
 use Rattle.keytable.proofs.entry_byte.Statement.{statement}
 use Rattle.keytable.proofs.entry_byte.Tie as tie

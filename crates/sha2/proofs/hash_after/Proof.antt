@@ -15,10 +15,11 @@ slice-aggregate-absorb c = sym (length-take-le _ (c .before .last-blocks .result
 
 returns : tie.Need-returns
 returns c =
-    let s = c .before .before .before .before .before .before .before in
+    let e = c .before .before .before .before .before in
+    let s = e .before .before in
     c .digest .ensures
     ∙ finished (s .args .s) (s .args .m .now) _ _ (c .before .before .before .last-blocks .result) (s .args .before) (s .pre .1) (c .before .before .before .last-blocks .ensures)
-    (c .before .before .before .before .before .absorb .ensures) (c .before .absorb2 .ensures)
+    (e .absorb .ensures) (c .before .absorb2 .ensures)
 
 pub hash-after-spec : {M : Type 1} → statement M
 hash-after-spec =

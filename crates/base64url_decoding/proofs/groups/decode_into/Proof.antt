@@ -27,10 +27,11 @@ returns c =
 
 returns-2 : tie.Need-returns-2
 returns-2 c =
-    let a = c .before .before .before .before .before .before .before .before .before .before .before .before .before .args in
-    let g = c .before .before .before .before .before .before .before .before .decode-groups in
+    let e = c .before .before .before .before .before in
+    let a = e .before .before .before .before .before .before .before .before .args in
+    let g = e .before .before .before .decode-groups in
     let r = c .before .before .decode-rest in
-    whole (a .text .now) (a .out .now) (g .last .1 .1 .0) (r .last .1 .1 .0) (not-false _ (c .before .before .before .before .before .if1 .left)) (g .ensures) (r .ensures)
+    whole (a .text .now) (a .out .now) (g .last .1 .1 .0) (r .last .1 .1 .0) (not-false _ (e .if1 .left)) (g .ensures) (r .ensures)
 
 pub decode-into-spec : {M : Type 1} → statement M
 decode-into-spec =

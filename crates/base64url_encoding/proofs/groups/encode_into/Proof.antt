@@ -22,14 +22,16 @@ encode-groups-requires c κs =
 
 encode-rest-requires : tie.Need-encode-rest-requires
 encode-rest-requires c κs =
-    let s = c .before .before .before .before .before .before .before .before .before .args .bytes .now in
+    let e = c .before .before .before .before .before .before .before .before .before in
+    let s = e .args .bytes .now in
     let f = rest-fits s (c .before .before .before .before .encode-groups .last .1 .1 .0) (omega (arith, c .before .before .before .before .encode-groups .kept)) in
-    (c .before .before .before .before .before .before .before .before .before .pre .0, f .0, f .1)
+    (e .pre .0, f .0, f .1)
 
 returns : tie.Need-returns
 returns c =
-    let a = c .before .before .before .before .before .before .before .before .before .before .before .before .args in
-    let g = c .before .before .before .before .before .before .before .encode-groups in
+    let e = c .before .before .before .before .before .before .before in
+    let a = e .before .before .before .before .before .args in
+    let g = e .encode-groups in
     let r = c .before .before .encode-rest in
     let n = length (a .bytes .now) / 3 in
     then-rest encode-grouping (a .bytes .now) (a .out .now) (n * 3) (n * 4) (omega arith) (omega arith) (omega arith) (g .last .1 .1 .0) (r .last .1 .1 .0) (g .ensures) (r .ensures)

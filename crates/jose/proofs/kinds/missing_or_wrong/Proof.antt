@@ -23,18 +23,20 @@ returns-3 c =
 
 returns-4 : tie.Need-returns-4
 returns-4 c =
-    let e = c .before .before .before .before .before .before in
+    let f = c .before .before .before .before .before in
+    let e = f .before in
     let b = e .before .before .before .before .before in
-    cty-wrong (b .pre .0) (b .pre .1) (sym (e .before .before .before .there .ensures) ∙ e .before .before .if1 .taken) (sym (e .before .no-string .ensures) ∙ e .if2 .left) (sym (c .before .before .before .before .before .no-string2 .ensures) ∙ c .before .before .before .before .if3 .left) (sym (c .before .before .before .no-string3 .ensures) ∙ c .before .before .if4 .left) (sym (c .before .no-string4 .ensures) ∙ c .if5 .taken)
+    cty-wrong (b .pre .0) (b .pre .1) (sym (e .before .before .before .there .ensures) ∙ e .before .before .if1 .taken) (sym (e .before .no-string .ensures) ∙ e .if2 .left) (sym (f .no-string2 .ensures) ∙ c .before .before .before .before .if3 .left) (sym (c .before .before .before .no-string3 .ensures) ∙ c .before .before .if4 .left) (sym (c .before .no-string4 .ensures) ∙ c .if5 .taken)
 
 no-strings-requires : tie.Need-no-strings-requires
 no-strings-requires c κs = c .before .before .before .before .before .before .before .before .before .before .before .pre .0 .stands theCrit
 
 returns-5 : tie.Need-returns-5
 returns-5 c =
-    let e = c .before .before .before .before .before .before in
+    let f = c .before .before .before .before .before in
+    let e = f .before in
     let b = e .before .before .before .before .before .before in
-    crit-left (b .pre .0) (b .pre .1) (sym (e .before .before .before .before .there .ensures) ∙ e .before .before .before .if1 .taken) (sym (e .before .before .no-string .ensures) ∙ e .before .if2 .left) (sym (e .no-string2 .ensures) ∙ c .before .before .before .before .before .if3 .left) (sym (c .before .before .before .before .no-string3 .ensures) ∙ c .before .before .before .if4 .left) (sym (c .before .before .no-string4 .ensures) ∙ c .before .if5 .left) (c .no-strings .ensures)
+    crit-left (b .pre .0) (b .pre .1) (sym (e .before .before .before .before .there .ensures) ∙ e .before .before .before .if1 .taken) (sym (e .before .before .no-string .ensures) ∙ e .before .if2 .left) (sym (e .no-string2 .ensures) ∙ f .if3 .left) (sym (c .before .before .before .before .no-string3 .ensures) ∙ c .before .before .before .if4 .left) (sym (c .before .before .no-string4 .ensures) ∙ c .before .if5 .left) (c .no-strings .ensures)
 
 returns-6 : tie.Need-returns-6
 returns-6 c = alg-missing (c .before .before .before .pre .0) (c .before .before .before .pre .1) (sym (c .before .there .ensures) ∙ c .if1 .left)

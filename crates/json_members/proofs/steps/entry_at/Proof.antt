@@ -21,8 +21,9 @@ sub-t18 c =
 
 returns-2 : tie.Need-returns-2
 returns-2 c =
-    let name = c .before .before .before .before .before .before .before in
-    law.entry-is _ _ _ (omega arith) (name .before .before .before .if1 .left) _ (stringed _ _ (name .q .given .1) (name .before .before .string-end .ensures)) (sym (c .before .before .before .f .given .1) ∙ c .before .before .before .before .before .value-span .ensures) (c .before .spanned .ensures)
+    let e = c .before .before .before .before .before in
+    let name = e .before .before in
+    law.entry-is _ _ _ (omega arith) (name .before .before .before .if1 .left) _ (stringed _ _ (name .q .given .1) (name .before .before .string-end .ensures)) (sym (c .before .before .before .f .given .1) ∙ e .value-span .ensures) (c .before .spanned .ensures)
 
 returns-3 : tie.Need-returns-3
 returns-3 c =

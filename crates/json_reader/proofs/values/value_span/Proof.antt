@@ -15,8 +15,9 @@ returns-2 c = law.span-none _ (cycle.colon-other _ (skips (c .before .before .be
 
 returns-3 : tie.Need-returns-3
 returns-3 c =
-    let colon = c .before .before .before .before .before .before .before in
-    law.span-is _ (skips (colon .before .skip-ws .ensures)) (colon .if1 .left) (c .before .before .before .before .before .if2 .left) (skips (c .before .before .before .before .skip-ws2 .ensures)) (sym (c .before .to .given .1) ∙ c .before .before .before .bare .ensures)
+    let e = c .before .before .before .before .before in
+    let colon = e .before .before in
+    law.span-is _ (skips (colon .before .skip-ws .ensures)) (colon .if1 .left) (e .if2 .left) (skips (c .before .before .before .before .skip-ws2 .ensures)) (sym (c .before .to .given .1) ∙ c .before .before .before .bare .ensures)
 
 returns-4 : tie.Need-returns-4
 returns-4 c =

@@ -14,6 +14,6 @@ unsigned-end-spec =
     (λ c. search needs)
     (λ c κs. bounds (ended (c .before .x .given .1) (c .before .before .before .frac-end .ensures)) .1)
     (λ c. search needs) (λ c. search needs)
-    (λ c. law.unsigned-is (ended (c .before .before .before .before .before .before .f .given .1) (c .before .before .before .before .before .before .before .before .int-end .ensures)) (ended (c .before .before .x .given .1) (c .before .before .before .before .frac-end .ensures)) (c .exp-end .ensures))
+    (λ c. let e = c .before .before .before .before .before .before in law.unsigned-is (ended (e .f .given .1) (e .before .before .int-end .ensures)) (ended (c .before .before .x .given .1) (c .before .before .before .before .frac-end .ensures)) (c .exp-end .ensures))
     (λ c. law.unsigned-frac-bad (ended (c .before .before .before .before .f .given .1) (c .before .before .before .before .before .before .int-end .ensures)) (ended (c .enum-told .given .1) (c .before .before .frac-end .ensures)))
     (λ c. law.unsigned-int-bad (ended (c .enum-told2 .given .1) (c .before .before .int-end .ensures))))

@@ -22,10 +22,11 @@ copy-at-requires-2 c κs =
 
 returns : tie.Need-returns
 returns c =
-    let s = c .before .before .before .before .before .before .before .before .before in
+    let e = c .before .before .before .before .before .before in
+    let s = e .before .before .before in
     let a = s .args in
     last sha-256 128 (a .total) (a .end - 8) (a .end) (a .r .now) _ _ _ (s .pre .1) (omega (arith, ends (a .r .now) (a .total) (s .pre .0))) refl
-    (c .before .before .before .before .eight-bytes .ensures ∙ modulo 8 (a .total * 8)) (c .before .before .before .before .before .before .copy-at .ensures) (c .before .copy-at2 .ensures)
+    (c .before .before .before .before .eight-bytes .ensures ∙ modulo 8 (a .total * 8)) (e .copy-at .ensures) (c .before .copy-at2 .ensures)
 
 pub last-blocks-spec : {M : Type 1} → statement M
 last-blocks-spec =

@@ -49,9 +49,10 @@ loop2-holds c = (omega arith, omega arith, λ s e. e)
 
 loop2-again : tie.Need-loop2-again Inv-loop μ-loop Inv-loop2 μ-loop2
 loop2-again c =
+    let f = c .before .before .before .before .before in
     let l = c .before .before .before .loop2 in
-    let o = c .before .before .before .before .before .loop in
-    let p = c .before .before .before .before .before .before .before .before in
+    let o = f .loop in
+    let p = f .before .before .before in
     let b = p .args .b .now in
     let e : o .t + 16 ≡ 64 = omega arith in (
       omega arith,
