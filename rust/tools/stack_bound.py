@@ -5,14 +5,15 @@
     python3 rust/tools/stack_bound.py target/staticlib/libjws_ffi.a
 
 A function's frame is its return address, what it pushes and what it takes off the stack pointer; a call path takes the sum of its
-frames. The readers of values, arrays and objects call one another: each round takes a level of the depth, of which there are eight,
-and a round more may begin before the limit refuses it. memset and memcpy are the caller's and are not counted.
+frames. The readers of values, arrays and objects call one another: a round through them takes a level of the depth, of which there are
+eight, and a path past the last round may still enter each of them before the limit refuses it. memset and memcpy are the caller's and are
+not counted.
 """
 import re
 import subprocess
 import sys
 
-ROUNDS = 8 + 1
+ROUNDS = 8
 
 
 def read(archive):
@@ -43,10 +44,23 @@ def reached(calls, start):
     return seen
 
 
+def heaviest_round(frames, calls, cycle):
+    """The greatest sum of frames on a way from a function back to itself that enters no function twice."""
+    best = 0
+    for start in cycle:
+        left = [(start, frozenset([start]), frames[start])]
+        while left:
+            at, seen, weight = left.pop()
+            if start in calls[at]:
+                best = max(best, weight)
+            left += [(to, seen | {to}, weight + frames[to]) for to in calls[at] & cycle - seen]
+    return best
+
+
 def bound(frames, calls, name):
-    """The deepest path from a function on. A cycle that is entered counts once, by all its frames, for each round."""
+    """The deepest path from a function on. A cycle that is entered counts by its heaviest round for each round, and by all its frames once."""
     cycle = {other for other in reached(calls, name) if name in reached(calls, other)}
-    here = ROUNDS * sum(frames[member] for member in cycle) if cycle else frames[name]
+    here = ROUNDS * heaviest_round(frames, calls, cycle) + sum(frames[member] for member in cycle) if cycle else frames[name]
     inside = cycle or {name}
     below = [bound(frames, calls, callee) for member in inside for callee in calls[member] - inside]
     return here + max(below, default=0)
