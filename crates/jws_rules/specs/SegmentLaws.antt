@@ -1,7 +1,7 @@
 -- Laws of a token's segments.
-use mathlib.Core.Path.{_≡_, refl, ap}
+use mathlib.Core.Path.{_≡_, refl, ap, _∙_}
 use mathlib.Core.Bool.{Bool, true, false, cond}
-use mathlib.Core.List.{List, [], _∷_}
+use mathlib.Core.List.{List, [], _∷_, _++_, append-nil}
 use Prim.Native.Nat.{ℕ, suc, _+_, _<_}
 use native.Mathlib.Omega.{arith}
 use lib.Dec.{eqb}
@@ -22,14 +22,20 @@ periods-dot (x ∷ a) b = go (eqb x period) (periods-dot a b)
     go true ih = omega arith
     go false ih = ih
 
-pub front-dot : (a b : List ℕ) → periods a ≡ 0 → front (a dot b) ≡ a
+-- a part without a period is passed over
+pub front-past : (a b : List ℕ) → periods a ≡ 0 → front (a ++ b) ≡ a ++ front b
 unfolding periods front
-front-dot [] b e = refl
-front-dot (x ∷ a) b e = go (eqb x period) e (front-dot a b)
+front-past [] b e = refl
+front-past (x ∷ a) b e = go (eqb x period) e (front-past a b)
   where
-    go : (q : Bool) → cond q (suc (periods a)) (periods a) ≡ 0 → (periods a ≡ 0 → front (a dot b) ≡ a) → cond q [] (x ∷ front (a dot b)) ≡ x ∷ a
+    go : (q : Bool) → cond q (suc (periods a)) (periods a) ≡ 0 → (periods a ≡ 0 → front (a ++ b) ≡ a ++ front b)
+        → cond q [] (x ∷ front (a ++ b)) ≡ x ∷ (a ++ front b)
     go true e ih = absurd (omega arith)
     go false e ih = ap (λ (l : List ℕ). x ∷ l) (ih e)
+
+pub front-dot : (a b : List ℕ) → periods a ≡ 0 → front (a dot b) ≡ a
+unfolding front
+front-dot a b e = front-past a (period ∷ b) e ∙ append-nil a
 
 pub back-dot : (a b : List ℕ) → periods a ≡ 0 → back (a dot b) ≡ b
 unfolding periods back

@@ -1,15 +1,15 @@
 -- What the places of the two periods say of a token's segments.
 use mathlib.Core.Path.{_≡_, refl, sym, ap, _∙_}
 use mathlib.Core.Bool.{Bool, true, false, cond}
-use mathlib.Core.List.{List, [], _∷_, _++_, append-assoc}
+use mathlib.Core.List.{List, [], _∷_, _++_, append-assoc, append-nil}
 use Prim.Native.Nat.{ℕ, zero, suc, _+_, _-_, _≤_, _<_}
 use native.Mathlib.Omega.{arith}
 use lib.Dec.{eqb}
-use lib.ListN.{length, take, drop, length-append, length-drop}
-use lib.Seq.{take-at, drop-at, drop-drop, take-all}
+use lib.ListN.{length, take, drop, length-append, length-drop, take-append-drop}
+use lib.Seq.{take-at, drop-at, drop-drop, take-all, length-take-le}
 use borrow.Author.Tests.{eqb-true, eq-eqb, ne-eqb}
 use Rattle.jws_rules.specs.Segments.{period, periods, front, back, _dot_}
-use Rattle.jws_rules.specs.SegmentLaws.{length-dot, periods-dot, split}
+use Rattle.jws_rules.specs.SegmentLaws.{length-dot, periods-dot, front-past, split}
 use Rattle.jws_rules.specs.Token.{sentInput}
 use Rattle.jws_segments.specs.declared.periods.Cut.the-variants.{At, Not}
 use Rattle.jws_segments.specs.Split.{splitOf}
@@ -38,13 +38,17 @@ divided t h =
 
 -- a list without a period is its own front
 front-all : (t : List ℕ) → periods t ≡ 0 → front t ≡ t
-unfolding periods front
-front-all [] e = refl
-front-all (x ∷ t) e = go (eqb x period) e (front-all t)
-  where
-    go : (q : Bool) → cond q (suc (periods t)) (periods t) ≡ 0 → (periods t ≡ 0 → front t ≡ t) → cond q [] (x ∷ front t) ≡ x ∷ t
-    go true e ih = absurd (omega arith)
-    go false e ih = ap (λ (l : List ℕ). x ∷ l) (ih e)
+unfolding front
+front-all t e = ap front (sym (append-nil t)) ∙ front-past t [] e ∙ append-nil t
+
+-- a block of n bytes without a period is passed over
+pub block-past : (t : List ℕ) (i n : ℕ) → i + n ≤ length t → periods (take n (drop i t)) ≡ 0 → length (front (drop i t)) ≡ n + length (front (drop (i + n) t))
+block-past t i n h e =
+    let r = drop i t in
+    ap (λ (l : List ℕ). length (front l)) (sym (take-append-drop n r))
+    ∙ ap length (front-past (take n r) (drop n r) e)
+    ∙ length-append (take n r) (front (drop n r))
+    ∙ rw (length-take-le n r (omega (arith, length-drop i t)), drop-drop n i t) refl
 
 -- what a search for the first period says, by the place n where it ends
 module _ (t : List ℕ) {n : ℕ} (e : n ≡ length (front t)) where

@@ -1,7 +1,9 @@
 // Where the two periods of a token stand.
 ghost use mathlib.Core.Path.{_≡_};
-ghost use lib.ListN.{length};
-ghost use Rattle.jws_rules.specs.Segments.{front};
+ghost use Prim.Native.Nat.{_+_};
+ghost use lib.Dec.{ltb};
+ghost use lib.ListN.{length, drop};
+ghost use Rattle.jws_rules.specs.Segments.{front, periods};
 ghost use Rattle.jws_segments.specs.Split.{splitOf};
 
 // The places of the two periods, or that there aren't exactly two.
@@ -10,11 +12,24 @@ pub enum Cut {
     Not,
 }
 
-// How many bytes stand before the first period; all of them where there is none.
-fn before_period(s: &[u8]) -> usize
-    ensures { λ r. ⌜ r ≡ length (front (now (s .entry))) ⌝ }
+// Whether a period stands in s. Every byte is looked at, so that a machine that can compares many of them at once.
+fn has_period(s: &[u8]) -> bool
+    ensures { λ r. ⌜ r ≡ ltb 0 (periods (now (s .entry))) ⌝ }
 {
+    let mut found = false;
     let mut i: usize = 0;
+    while i < s.len() {
+        found |= s[i] == b'.';
+        i += 1;
+    }
+    found
+}
+
+// Where the first period stands from a place on; where there is none, the end.
+fn period_from(s: &[u8], from: usize) -> usize
+    ensures { λ r. ⌜ r ≡ from + length (front (drop from (now (s .entry)))) ⌝ }
+{
+    let mut i = from;
     while i < s.len() {
         if s[i] == b'.' {
             return i;
@@ -24,7 +39,21 @@ fn before_period(s: &[u8]) -> usize
     i
 }
 
-// One pass over the token. Rules out a third period let through, and the second one placed a byte early.
+// How many bytes stand before the first period; all of them where there is none. Blocks without one are passed over whole.
+fn before_period(s: &[u8]) -> usize
+    ensures { λ r. ⌜ r ≡ length (front (now (s .entry))) ⌝ }
+{
+    let mut i: usize = 0;
+    while 32 <= s.len() - i {
+        if has_period(&s[i..i + 32]) {
+            return period_from(s, i);
+        }
+        i += 32;
+    }
+    period_from(s, i)
+}
+
+// Rules out a third period let through, and the second one placed a byte early.
 pub fn split(token: &[u8]) -> Cut
     ensures { λ r. ⌜ r ≡ splitOf (now (token .entry)) ⌝ }
 {

@@ -119,6 +119,26 @@ fn buffer_lengths() {
     }
 }
 
+/// Periods are searched for in blocks: they stand here at every place of a block, and a third one at every place of a token.
+#[test]
+fn places_of_periods() {
+    let table = one_key();
+    for h in HEADER.len()..HEADER.len() + 48 {
+        let header = format!("{:h$}", str::from_utf8(HEADER).unwrap()).into_bytes();
+        for p in 0..48 {
+            let signed = sign(&header, &LONGEST_PAYLOAD[..p], &table, 300);
+            assert_eq!(verify(signed.token(), &table, h, p).answer, 0);
+        }
+    }
+    let signed = sign(HEADER, &LONGEST_PAYLOAD[..90], &table, 300);
+    for place in 0..signed.token().len() {
+        let mut token = signed.token().to_vec();
+        let answer = if token[place] == b'.' { 0 } else { 3 };
+        token[place] = b'.';
+        assert_eq!(verify(&token, &table, 100, 100).answer, answer, "{place}");
+    }
+}
+
 #[test]
 fn shortest_tokens() {
     for table in [one_key(), vec![0, 1, 0, 0, 0, 0, 0, 8]] {

@@ -1,29 +1,14 @@
--- `before_period` meets its contract: up to i no byte is a period.
-use mathlib.Core.Path.{_≡_}
-use mathlib.Core.List.{List}
-use Prim.Native.Nat.{ℕ, _+_, _-_, _≤_, _<_}
-use native.Mathlib.Numerals.{add-one}
+-- `before_period` meets its contract: before i no byte is a period.
+use mathlib.Core.Path.{_≡_, sym, _∙_}
+use Prim.Native.Nat.{_+_, _-_, _≤_}
 use native.Mathlib.Omega.{arith}
-use lib.ListN.{length, drop, getD, drop-of-length-le}
-use lib.Seq.{drop-cons}
-use borrow.Author.Tests.{eq-eqb, ne-eqb}
-use Rattle.jws_rules.specs.Segments.{period, front}
+use borrow.Author.Needs.{needs}
+use borrow.Author.Tests.{ltb-false}
+use lib.ListN.{length, take, drop}
+use Rattle.jws_rules.specs.Segments.{front, periods}
+use Rattle.jws_segments.specs.SplitLaws.{block-past}
 use Rattle.jws_segments.proofs.periods.before_period.Statement.{statement}
 use Rattle.jws_segments.proofs.periods.before_period.Tie as tie
-
--- the front of what is left: a byte more, or none, or nothing is left
-module _ (s : List ℕ) (i : ℕ) where
-  more : i < length s → (getD s i 0 ≡ period → ⊥) → length (front (drop i s)) ≡ 1 + length (front (drop (i + 1) s))
-  unfolding front
-  more h n = rw (drop-cons s i 0 h, ne-eqb (getD s i 0) period n, add-one i) (omega arith)
-
-  stopped : i < length s → getD s i 0 ≡ period → length (front (drop i s)) ≡ 0
-  unfolding front
-  stopped h e = rw (drop-cons s i 0 h, eq-eqb (getD s i 0) period e)
-
-  ended : length s ≤ i → length (front (drop i s)) ≡ 0
-  unfolding front
-  ended h = rw (drop-of-length-le s {i = i} h)
 
 abbrev Inv-loop : tie.InvT-loop
 Inv-loop s i₀ i = (i ≤ length s) × (length (front s) ≡ i + length (front (drop i s)))
@@ -31,17 +16,14 @@ Inv-loop s i₀ i = (i ≤ length s) × (length (front s) ≡ i + length (front 
 abbrev μ-loop : tie.MeasureT-loop
 μ-loop s i₀ i = length s - i
 
-loop-holds : tie.Need-loop-holds Inv-loop μ-loop
-loop-holds c = (omega arith, omega arith)
-
-returns : tie.Need-returns Inv-loop μ-loop
-returns c = let l = c .before .before .before .loop in omega (arith, stopped (c .before .before .before .before .args .s .now) (l .i) (omega arith) (c .if1 .taken))
-
 loop-again : tie.Need-loop-again Inv-loop μ-loop
-loop-again c = let l = c .before .before .before .loop in (omega arith, omega (arith, more (c .before .before .before .before .args .s .now) (l .i) (omega arith) (c .if1 .left)))
-
-returns-2 : tie.Need-returns-2 Inv-loop μ-loop
-returns-2 c = let l = c .before .loop in omega (arith, ended (c .before .before .args .s .now) (l .i) (omega arith))
+loop-again c =
+    let b = c .before .before .before .before in
+    let s = b .before .before .args .s .now in
+    let i = b .loop .i in
+    let width : i + 32 - i ≡ 32 = omega arith in
+    let none : periods (take (i + 32 - i) (drop i s)) ≤ 0 = ltb-false 0 _ (sym (c .before .has-period .ensures) ∙ c .if1 .left) in
+    (omega arith, omega (arith, block-past s i 32 (omega arith) (rw (← width) (omega arith))))
 
 pub before-period-spec : {M : Type 1} → statement M
 before-period-spec =
@@ -49,9 +31,8 @@ before-period-spec =
     (tie.spec
     Inv-loop
     μ-loop
-    loop-holds
-    (λ c. omega arith)
-    returns
-    (λ c. omega arith) (λ c. omega arith)
+    (λ c. (omega arith, omega arith))
+    (λ c. omega arith) (λ c. omega arith) (λ c. omega arith) (λ c. omega arith) (λ c. omega arith)
+    (λ c κs. search needs) (λ c κs. search needs) (λ c. omega arith) (λ c. omega arith) (λ c. omega arith)
     loop-again
-    returns-2)
+    (λ c κs. search needs) (λ c. omega arith))
