@@ -1,36 +1,23 @@
 -- Laws for the functions on classes of bytes.
-use mathlib.Core.Path.{_≡_, refl, sym, _∙_}
-use mathlib.Core.Bool.{Bool, true, false, _||_}
+use mathlib.Core.Path.{_≡_, _∙_}
+use mathlib.Core.Bool.{true, false}
 use Prim.Native.Nat.{ℕ, _≤_, _<_, _-_}
 use native.Mathlib.Omega.{arith}
 use Rattle.json_grammar.specs.Bytes.{within, isDigit, isHex, hexVal}
 use Rattle.json_grammar.specs.Reader.{isUnescaped1}
 use Rattle.json_grammar.specs.ByteLaws.{within-true}
 
--- three tests, the last first
-pub unescaped-1 : (b : ℕ) → within 0x5D 0x7F b ≡ true → true ≡ isUnescaped1 b
+pub unescaped-1 : (b : ℕ) → within 0x20 0x21 b ≡ true → true ≡ isUnescaped1 b
 unfolding isUnescaped1
-unescaped-1 b e = sym (go (within 0x20 0x21 b || within 0x23 0x5B b) (within 0x5D 0x7F b) e)
-  where
-    go : (p q : Bool) → q ≡ true → p || q ≡ true
-    go true q e = refl
-    go false q e = e
+unescaped-1 b e = rw e
 
-pub unescaped-2 : (b : ℕ) → within 0x23 0x5B b ≡ true → true ≡ isUnescaped1 b
+pub unescaped-2 : (b : ℕ) → within 0x20 0x21 b ≡ false → within 0x23 0x5B b ≡ true → true ≡ isUnescaped1 b
 unfolding isUnescaped1
-unescaped-2 b e = sym (go (within 0x20 0x21 b) (within 0x23 0x5B b) (within 0x5D 0x7F b) e)
-  where
-    go : (p q r : Bool) → q ≡ true → p || q || r ≡ true
-    go true q r e = refl
-    go false q r e = rw e
+unescaped-2 b e f = rw (e, f)
 
-pub unescaped-3 : (b : ℕ) → within 0x5D 0x7F b ≡ false → within 0x23 0x5B b ≡ false → within 0x20 0x21 b ≡ isUnescaped1 b
+pub unescaped-3 : (b : ℕ) → within 0x20 0x21 b ≡ false → within 0x23 0x5B b ≡ false → within 0x5D 0x7F b ≡ isUnescaped1 b
 unfolding isUnescaped1
-unescaped-3 b e f = go (within 0x20 0x21 b) (within 0x23 0x5B b) (within 0x5D 0x7F b) e f
-  where
-    go : (p q r : Bool) → r ≡ false → q ≡ false → p ≡ p || q || r
-    go true q r e f = refl
-    go false q r e f = rw (f, e)
+unescaped-3 b e f = rw (e, f)
 
 pub hex-1 : (b : ℕ) → within 0x30 0x39 b ≡ true → true ≡ isHex b
 unfolding isHex isDigit

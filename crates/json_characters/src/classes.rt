@@ -26,18 +26,18 @@ pub(crate) fn between32(lo: u32, hi: u32, x: u32) -> bool
     x <= hi
 }
 
-// Whether a character of one byte may stand unescaped in a string. Letters are tested first. Rules out a control character, and the
-// quotation mark.
+// Whether a character of one byte may stand unescaped in a string. In the grammar's order, of which the compiler makes the shortest
+// loop over a string's letters. Rules out a control character, and the quotation mark.
 pub fn is_unescaped1(b: u8) -> bool
     ensures { λ r. ⌜ r ≡ isUnescaped1 b ⌝ }
 {
-    if between(0x5D, 0x7F, b) {
+    if between(0x20, 0x21, b) {
         return true;
     }
     if between(0x23, 0x5B, b) {
         return true;
     }
-    between(0x20, 0x21, b)
+    between(0x5D, 0x7F, b)
 }
 
 // The digits of an escape: 0-9 and A-F, no small letters.

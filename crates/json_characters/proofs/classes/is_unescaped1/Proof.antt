@@ -8,7 +8,9 @@ returns : tie.Need-returns
 returns c = unescaped-1 _ (sym (c .before .between .ensures) ∙ c .if1 .taken)
 
 returns-2 : tie.Need-returns-2
-returns-2 c = unescaped-2 _ (sym (c .before .between2 .ensures) ∙ c .if2 .taken)
+returns-2 c =
+    let e = c .before .before in
+    unescaped-2 _ (sym (e .before .between .ensures) ∙ e .if1 .left) (sym (c .before .between2 .ensures) ∙ c .if2 .taken)
 
 returns-3 : tie.Need-returns-3
 returns-3 c =
