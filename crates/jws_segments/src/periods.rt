@@ -12,6 +12,9 @@ pub enum Cut {
     Not,
 }
 
+// How many bytes are looked at together.
+const BLOCK: usize = 32;
+
 // Whether a period stands in s. Every byte is looked at, so that a machine that can compares many of them at once.
 fn has_period(s: &[u8]) -> bool
     ensures { λ r. ⌜ r ≡ ltb 0 (periods (now (s .entry))) ⌝ }
@@ -25,7 +28,7 @@ fn has_period(s: &[u8]) -> bool
     found
 }
 
-// Where the first period stands from a place on; where there is none, the end.
+// Where the first period stands from a place on; where there is none, the end, or that place if it lies past the end.
 fn period_from(s: &[u8], from: usize) -> usize
     ensures { λ r. ⌜ r ≡ from + length (front (drop from (now (s .entry)))) ⌝ }
 {
@@ -44,11 +47,11 @@ fn before_period(s: &[u8]) -> usize
     ensures { λ r. ⌜ r ≡ length (front (now (s .entry))) ⌝ }
 {
     let mut i: usize = 0;
-    while 32 <= s.len() - i {
-        if has_period(&s[i..i + 32]) {
+    while BLOCK <= s.len() - i {
+        if has_period(&s[i..i + BLOCK]) {
             return period_from(s, i);
         }
-        i += 32;
+        i += BLOCK;
     }
     period_from(s, i)
 }
