@@ -2,17 +2,15 @@
 use mathlib.Core.Path.{_≡_}
 use mathlib.Core.Bool.{Bool, true, false}
 use mathlib.Core.List.{List}
-use Prim.Native.Nat.{ℕ, _≤_, _<_, _+_}
+use Prim.Native.Nat.{ℕ, suc, _≤_, _<_, _+_}
 use native.Mathlib.Omega.{arith}
 use lib.ListN.{length, drop, getD, drop-of-length-le}
 use borrow.Author.Tests.{eq-eqb, ne-eqb}
 use Rattle.json_grammar.specs.Reader.{skip, word}
-use Rattle.json_string.specs.declared.End.{End}
 use Rattle.json_string.specs.declared.End.the-variants.{At, Bad}
 use Rattle.json_string.specs.Ends.{at-byte}
-use Rattle.json_tokens.specs.Tokens.{skipTo, WordEnds}
+use Rattle.json_tokens.specs.Tokens.{skipTo, wordEnd}
 use Rattle.json_tokens.specs.TokenLaws.{skip-shorter}
-use Rattle.json_tokens.specs.EndsLaws.{done, first, first-bad, out}
 
 -- BYTES THAT PASS A TEST
 
@@ -31,19 +29,21 @@ module _ (p : ℕ → Bool) (s : List ℕ) (at : ℕ) where
 
 -- WORDS: bytes i and on of the word w are left
 
-module _ {s : List ℕ} {at : ℕ} (w : List ℕ) (i : ℕ) where
-  pub word-more : {r : End} → i < length w → at < length s → getD s at 0 ≡ getD w i 0 → WordEnds (drop (i + 1) w) s (at + 1) r → WordEnds (drop i w) s at r
-  unfolding word
-  word-more k h e rest = first h (omega arith) (λ n. rw (at-byte w i k, eq-eqb (getD s at 0) (getD w i 0) e, word)) rest
+module _ (w s : List ℕ) (i at : ℕ) where
+  pub word-more : i < length w → at < length s → getD s at 0 ≡ getD w i 0 → wordEnd (drop i w) s at ≡ wordEnd (drop (i + 1) w) s (at + 1)
+  unfolding wordEnd word
+  word-more k h e =
+      let n : at + suc (length (drop (i + 1) w)) ≡ at + 1 + length (drop (i + 1) w) = omega arith in
+      rw (at-byte w i k, at-byte s at h, eq-eqb (getD s at 0) (getD w i 0) e, word, n)
 
-  pub word-other : i < length w → at < length s → (getD s at 0 ≡ getD w i 0 → ⊥) → WordEnds (drop i w) s at Bad
-  unfolding word
-  word-other k h e = first-bad h (omega arith) (λ n. rw (at-byte w i k, ne-eqb (getD s at 0) (getD w i 0) e, word))
+  pub word-other : i < length w → at < length s → (getD s at 0 ≡ getD w i 0 → ⊥) → wordEnd (drop i w) s at ≡ Bad
+  unfolding wordEnd word
+  word-other k h e = rw (at-byte w i k, at-byte s at h, ne-eqb (getD s at 0) (getD w i 0) e, word)
 
-  pub word-out : i < length w → length s ≤ at → WordEnds (drop i w) s at Bad
-  unfolding word
-  word-out k h = out h (λ n. rw (at-byte w i k))
+  pub word-out : i < length w → length s ≤ at → wordEnd (drop i w) s at ≡ Bad
+  unfolding wordEnd word
+  word-out k h = rw (at-byte w i k, drop-of-length-le s h)
 
-  pub word-done : length w ≤ i → at ≤ length s → WordEnds (drop i w) s at (At at)
-  unfolding word
-  word-done k h = done tt (omega arith) h (λ n. rw (drop-of-length-le w k))
+  pub word-done : length w ≤ i → wordEnd (drop i w) s at ≡ At at
+  unfolding wordEnd word
+  word-done k = let n : at + 0 ≡ at = omega arith in rw (drop-of-length-le w k, n)

@@ -1,22 +1,21 @@
 -- Laws of tokens: what the equations of the contracts say of places.
-use mathlib.Core.Path.{_≡_, refl, sym, _∙_, subst}
+use mathlib.Core.Path.{_≡_, refl, sym, ap, _∙_, subst}
 use mathlib.Core.Bool.{Bool, true, false}
 use mathlib.Core.List.{List, [], _∷_}
-use Prim.Native.Nat.{ℕ, suc, _≤_, _-_}
+use Prim.Native.Nat.{ℕ, suc, _+_, _≤_, _-_}
 use native.Mathlib.Omega.{arith}
-use lib.ListN.{length, drop, length-drop}
-use lib.Seq.{drop-drop}
+use lib.ListN.{length, drop, length-drop, length-append}
+use lib.Seq.{drop-drop, drop-append-seam}
 use Rattle.json_grammar.specs.Bytes.{isWs}
 use Rattle.json_grammar.specs.Reader.{Past, bad, got, skip, pastNumber, word}
 use Rattle.json_grammar.specs.ReaderLaws.{word-inv}
-use Rattle.json_grammar.specs.Places.{pos}
 use Rattle.json_grammar.specs.NumberLaws.{number-sound}
 use Rattle.json_grammar.specs.Written.{number}
-use Rattle.json_grammar.specs.Endings.{Ending, shorter-ending, at-ending, ending-of, ending-drop, yield-leaves}
+use Rattle.json_grammar.specs.Endings.{yield-leaves}
 use Rattle.json_grammar.specs.Fuel.{Steady}
 use Rattle.json_string.specs.declared.End.{End}
-use Rattle.json_string.specs.Ends.{Ends, endOf}
-use Rattle.json_tokens.specs.Tokens.{skipTo, skipWs, MovesTo, SkipsTo, NumberEnds, numberEnd, WordEnds, wordEnd}
+use Rattle.json_string.specs.Ends.{Ends}
+use Rattle.json_tokens.specs.Tokens.{skipTo, skipWs, MovesTo, SkipsTo, NumberEnds, numberEnd, WordEnds, endAt, wordEnd}
 use Rattle.json_tokens.specs.EndsLaws.{ended, is-end, ends-of}
 
 -- BYTES THAT PASS A TEST
@@ -69,15 +68,12 @@ number-is h = is-end h
 -- WORDS
 
 pub word-ends : (w : List ℕ) {s : List ℕ} {at : ℕ} {r : End} → at ≤ length s → r ≡ wordEnd w s at → WordEnds w s at r
-unfolding wordEnd pos
+unfolding wordEnd
 word-ends w {s} {at} h e = ended (sym e) (record { ends = λ n j. go (word w (drop at s)) refl })
   where
-    go : (g : Past) → word w (drop at s) ≡ g → Ends s at (endOf s g) g
+    go : (g : Past) → word w (drop at s) ≡ g → Ends s at (endAt (at + length w) g) g
     go bad q = tt
     go (got a x) q =
-        let i : Ending (drop at s) x = record { front = w; is = word-inv w (drop at s) x q } in
-        (omega (arith, shorter-ending i, length-drop at s), omega arith, sym (at-ending (ending-of (ending-drop s at) i)))
-
-pub word-is : (w : List ℕ) {s : List ℕ} {at : ℕ} {r : End} → WordEnds w s at r → r ≡ wordEnd w s at
-unfolding wordEnd
-word-is w h = is-end h
+        let i = word-inv w (drop at s) x q in
+        let k : length (drop at s) ≡ length w + length x = ap length i ∙ length-append w x in
+        (omega arith, omega (arith, length-drop at s), sym (sym (drop-drop (length w) at s) ∙ ap (drop (length w)) i ∙ drop-append-seam w x))

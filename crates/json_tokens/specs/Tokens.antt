@@ -5,8 +5,9 @@ use mathlib.Core.List.{List}
 use Prim.Native.Nat.{ℕ, _≤_, _+_, _-_}
 use lib.ListN.{length, drop}
 use Rattle.json_grammar.specs.Bytes.{isWs}
-use Rattle.json_grammar.specs.Reader.{Got, skip, ws, pastDigits, pastInt, pastFrac, pastExp, pastUnsigned, pastNumber, word}
+use Rattle.json_grammar.specs.Reader.{Got, Past, bad, got, skip, ws, pastDigits, pastInt, pastFrac, pastExp, pastUnsigned, pastNumber, word}
 use Rattle.json_string.specs.declared.End.{End}
+use Rattle.json_string.specs.declared.End.the-variants.{At, Bad}
 use Rattle.json_string.specs.Ends.{Ends, endOf}
 
 -- WHITE SPACE, and digits
@@ -59,5 +60,10 @@ numberEnd s at = endOf s (pastNumber (drop at s))
 abbrev pub WordEnds : List ℕ → List ℕ → ℕ → End → Type 0
 WordEnds w s at r = EndsBy (λ _ x. word w x) s at at r
 
+-- e, where something was read
+abbrev pub endAt : ℕ → Past → End
+endAt e (got a r) = At e
+endAt e bad = Bad
+
 unfoldable pub wordEnd : List ℕ → List ℕ → ℕ → End
-wordEnd w s at = endOf s (word w (drop at s))
+wordEnd w s at = endAt (at + length w) (word w (drop at s))

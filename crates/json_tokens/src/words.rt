@@ -1,14 +1,11 @@
 // The words true, false and null (RFC 8259 section 3).
 use json_string::End;
 ghost use mathlib.Core.Path.{_≡_};
-ghost use Prim.Native.Nat.{_≤_};
-ghost use lib.ListN.{length};
 ghost use Rattle.json_tokens.specs.Tokens.{wordEnd};
 
 // The place after the bytes of `word`, which must stand at `from`.
 // Rules out a word that is cut short, and one with another letter in it.
 pub fn word_end(s: &[u8], from: usize, word: &[u8]) -> End
-    requires { ⌜ from ≤ length (now s) ⌝ }
     ensures { λ r. ⌜ r ≡ wordEnd (now (word .entry)) (now (s .entry)) from ⌝ }
 {
     let mut at = from;
