@@ -69,39 +69,41 @@ string-bounds s at {e} h = let k = ends-at s at e (readChars (length (drop at s)
 
 -- THE BLOCK
 
--- the first k names of the block are other than the name at q
-pub record Without (s a : List ℕ) (k q : ℕ) : Type 0 where
-  pub is : (n : List ℕ) (b : List (List ℕ)) → Block s a k b → NameAt s q n → among n b ≡ false
+-- the first k names of the block are other than the name at q in t
+pub record Without (s a : List ℕ) (k : ℕ) (t : List ℕ) (q : ℕ) : Type 0 where
+  pub is : (n : List ℕ) (b : List (List ℕ)) → Block s a k b → NameAt t q n → among n b ≡ false
 
-module _ {s a : List ℕ} where
-  pub without-start : (q : ℕ) → Without s a 0 q
+module _ {s a t : List ℕ} where
+  pub without-start : (q : ℕ) → Without s a 0 t q
   unfolding among
   without-start q = record { is = go }
     where
-      go : (n : List ℕ) (b : List (List ℕ)) → Block s a 0 b → NameAt s q n → among n b ≡ false
+      go : (n : List ℕ) (b : List (List ℕ)) → Block s a 0 b → NameAt t q n → among n b ≡ false
       go n b empty h = refl
 
-  pub without-next : {i q : ℕ} → Without s a i q → sameText s q s (getD a i 0) ≡ false → Without s a (i + 1) q
+  pub without-next : {i q : ℕ} → Without s a i t q → sameText t q s (getD a i 0) ≡ false → Without s a (i + 1) t q
   unfolding among
-  without-next {i} {q} w t = record { is = λ n b k h. go n h b (subst (λ (j : ℕ). Block s a j b) (add-one i) k) }
+  without-next {i} {q} w e = record { is = λ n b k h. go n h b (subst (λ (j : ℕ). Block s a j b) (add-one i) k) }
     where
-      go : (n : List ℕ) → NameAt s q n → (b : List (List ℕ)) → Block s a (suc i) b → among n b ≡ false
-      go n h (m ∷ c) (one-more x y) = ap₂ _||_ (sym (names-same s q s (getD a i 0) n m h x) ∙ t) (w .is n c y h)
+      go : (n : List ℕ) → NameAt t q n → (b : List (List ℕ)) → Block s a (suc i) b → among n b ≡ false
+      go n h (m ∷ c) (one-more x y) = ap₂ _||_ (sym (names-same t q s (getD a i 0) n m h x) ∙ e) (w .is n c y h)
 
-  pub without-all : {k i q : ℕ} → (i ≤ k) × Without s a i q → k ≤ i → Without s a k q
-  without-all {k} {i} {q} w h = let e : i ≡ k = omega (arith, w .0) in subst (λ (j : ℕ). Without s a j q) e (w .1)
+  pub without-all : {k i q : ℕ} → (i ≤ k) × Without s a i t q → k ≤ i → Without s a k t q
+  without-all {k} {i} {q} w h = let e : i ≡ k = omega (arith, w .0) in subst (λ (j : ℕ). Without s a j t q) e (w .1)
 
-  -- a name equal to the name at q is among them
-  found : {k : ℕ} {b : List (List ℕ)} → Block s a k b → (i q : ℕ) → i < k → (n : List ℕ) → NameAt s q n → sameText s q s (getD a i 0) ≡ true → among n b ≡ true
+-- a name equal to the name at q in t is among them
+module _ {s a : List ℕ} (t : List ℕ) where
+  found : {k : ℕ} {b : List (List ℕ)} → Block s a k b → (i q : ℕ) → i < k → (n : List ℕ) → NameAt t q n → sameText t q s (getD a i 0) ≡ true → among n b ≡ true
   unfolding among
-  found empty i q l n h t = absurd (omega arith)
-  found (one-more {k = k} {n = m} {b = b} x y) i q l n h t = go (eqb i k) refl (λ j. found y i q j n h t)
+  found empty i q l n h c = absurd (omega arith)
+  found (one-more {k = k} {n = m} {b = b} x y) i q l n h c = go (eqb i k) refl (λ j. found y i q j n h c)
     where
       go : (e : Bool) → eqb i k ≡ e → (i < k → among n b ≡ true) → same n m || among n b ≡ true
-      go true e ih = ap (λ (z : Bool). z || among n b) (sym (names-same s q s (getD a i 0) n m h (subst (λ (j : ℕ). NameAt s (getD a j 0) m) (sym (eqb-true i k e)) x)) ∙ t)
-      go false e ih = let z = eqb-false i k e in ap (λ (t : Bool). same n m || t) (ih (omega arith)) ∙ or-true (same n m)
+      go true e ih = ap (λ (z : Bool). z || among n b) (sym (names-same t q s (getD a i 0) n m h (subst (λ (j : ℕ). NameAt s (getD a j 0) m) (sym (eqb-true i k e)) x)) ∙ c)
+      go false e ih = let j = eqb-false i k e in ap (λ (z : Bool). same n m || z) (ih (omega arith)) ∙ or-true (same n m)
 
-  -- a place past the block may be set
+-- a place past the block may be set
+module _ {s a : List ℕ} where
   kept : {k : ℕ} {b : List (List ℕ)} → Block s a k b → (j v : ℕ) → k ≤ j → Block s (set a j v) k b
   kept empty j v h = empty
   kept (one-more {k = k} {n = n} x y) j v h =
@@ -160,10 +162,10 @@ module _ {s : List ℕ} {from : ℕ} (d : ℕ) {a : List ℕ} {k p : ℕ} (fl : 
           → repeated (namesOf ms) ≡ crosses (f .block) (namesOf rest) || repeated (namesOf rest) → repeated (namesOf ms) ≡ true
       go ms f lnil h e = no-members d h
       go ms f (lcons (named x y n v) r) h e =
-          e ∙ ap (λ (z : Bool). (z || crosses (f .block) (namesOf r)) || repeated (n ∷ namesOf r)) (found (f .stands) i (p + 1) l n (first-name d x y n v r h) t)
+          e ∙ ap (λ (z : Bool). (z || crosses (f .block) (namesOf r)) || repeated (n ∷ namesOf r)) (found s (f .stands) i (p + 1) l n (first-name d x y n v r h) t)
 
   -- the block is full, and is compared with the names from p on
-  module _ {t : Bool} (h : Meets s a k p d t) where
+  module _ {t : Bool} (h : Meets s a k s p d t) where
     pub filling-met : t ≡ true → Searched s from d Twice
     filling-met e = record {
       later = λ q c. no-past c;
@@ -180,7 +182,7 @@ module _ {s : List ℕ} {from : ℕ} (d : ℕ) {a : List ℕ} {k p : ℕ} (fl : 
           (f .rest, f .here, f .agrees ∙ ap (λ (z : Bool). z || repeated (namesOf (f .rest))) (sym (h .is (f .block) (f .rest) (f .stands) (f .here)) ∙ e));
     }
 
-  module _ {r : Entry} (w : Without s a k (p + 1)) (en : EntryAt s p d r) where
+  module _ {r : Entry} (w : Without s a k s (p + 1)) (en : EntryAt s p d r) where
     -- the name at p joins the block
     pub filling-next : {q : ℕ} → r .next ≡ At q → k < length a → Filling s d from (set a k (p + 1)) (k + 1) q
     unfolding names plain
@@ -224,36 +226,36 @@ module _ {s : List ℕ} {from : ℕ} (d : ℕ) {a : List ℕ} {k p : ℕ} (fl : 
                   ∙ ap (λ (j : LMembers). crosses (n ∷ f .block) (namesOf j) || repeated (namesOf o)) o-is,
             )
 
--- WHEN IT IS FULL: the names from p on are compared with it
+-- WHEN IT IS FULL: the names from p on in t are compared with it
 
-module _ (s : List ℕ) {a : List ℕ} {k : ℕ} (p d : ℕ) where
-  pub meets-found : (i : ℕ) → i < k → sameText s (p + 1) s (getD a i 0) ≡ true → Meets s a k p d true
+module _ {s : List ℕ} (t : List ℕ) {a : List ℕ} {k : ℕ} (p d : ℕ) where
+  pub meets-found : (i : ℕ) → i < k → sameText t (p + 1) s (getD a i 0) ≡ true → Meets s a k t p d true
   unfolding crosses names plain
-  meets-found i l t = record { is = go }
+  meets-found i l e = record { is = go }
     where
-      go : (b : List (List ℕ)) (ms : LMembers) → Block s a k b → MembersAt s p d ms → true ≡ crosses b (namesOf ms)
+      go : (b : List (List ℕ)) (ms : LMembers) → Block s a k b → MembersAt t p d ms → true ≡ crosses b (namesOf ms)
       go b lnil bl h = no-members d h
-      go b (lcons (named x y n v) o) bl h = sym (ap (λ (z : Bool). z || crosses b (namesOf o)) (found bl i (p + 1) l n (first-name d x y n v o h) t))
+      go b (lcons (named x y n v) o) bl h = sym (ap (λ (z : Bool). z || crosses b (namesOf o)) (found t bl i (p + 1) l n (first-name d x y n v o h) e))
 
-module _ {s a : List ℕ} {k p : ℕ} (d : ℕ) {r : Entry} (w : Without s a k (p + 1)) (en : EntryAt s p d r) where
-  pub meets-next : {q : ℕ} {t : Bool} → r .next ≡ At q → Meets s a k q d t → Meets s a k p d t
+module _ {s a : List ℕ} {k : ℕ} {t : List ℕ} {p : ℕ} (d : ℕ) {r : Entry} (w : Without s a k t (p + 1)) (en : EntryAt t p d r) where
+  pub meets-next : {q : ℕ} {c : Bool} → r .next ≡ At q → Meets s a k t q d c → Meets s a k t p d c
   unfolding crosses names plain
-  meets-next {q} {t} e m = record { is = go }
+  meets-next {q} {c} e m = record { is = go }
     where
-      go : (b : List (List ℕ)) (ms : LMembers) → Block s a k b → MembersAt s p d ms → t ≡ crosses b (namesOf ms)
+      go : (b : List (List ℕ)) (ms : LMembers) → Block s a k b → MembersAt t p d ms → c ≡ crosses b (namesOf ms)
       go b lnil bl h = no-members d h
       go b (lcons (named x y n (item u v z)) o) bl h =
-          m .is b o bl (subst (λ (j : End). MembersFrom s d j o) e (en .is x y n u v z o h .2))
+          m .is b o bl (subst (λ (j : End). MembersFrom t d j o) e (en .is x y n u v z o h .2))
           ∙ sym (ap (λ (i : Bool). i || crosses b (namesOf o)) (w .is n b bl (first-name d x y n (item u v z) o h)))
 
-  pub meets-last : r .next ≡ Bad → Meets s a k p d false
+  pub meets-last : r .next ≡ Bad → Meets s a k t p d false
   unfolding crosses names plain
   meets-last e = record { is = go }
     where
-      go : (b : List (List ℕ)) (ms : LMembers) → Block s a k b → MembersAt s p d ms → false ≡ crosses b (namesOf ms)
+      go : (b : List (List ℕ)) (ms : LMembers) → Block s a k b → MembersAt t p d ms → false ≡ crosses b (namesOf ms)
       go b lnil bl h = no-members d h
       go b (lcons (named x y n (item u v z)) o) bl h =
-          let o-is : o ≡ lnil = subst (λ (j : End). MembersFrom s d j o) e (en .is x y n u v z o h .2) in
+          let o-is : o ≡ lnil = subst (λ (j : End). MembersFrom t d j o) e (en .is x y n u v z o h .2) in
           sym (ap₂ (λ (i : Bool) (j : LMembers). i || crosses b (namesOf j)) (w .is n b bl (first-name d x y n (item u v z) o h)) o-is)
 
 -- BLOCK BY BLOCK

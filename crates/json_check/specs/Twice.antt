@@ -35,9 +35,9 @@ unfoldable pub crosses : List (List ℕ) → List (List ℕ) → Bool
 crosses b [] = false
 crosses b (y ∷ ys) = among y b || crosses b ys
 
--- r says whether the block has a name of the members at p
-pub record Meets (s a : List ℕ) (k p d : ℕ) (r : Bool) : Type 0 where
-  pub is : (b : List (List ℕ)) (ms : LMembers) → Block s a k b → MembersAt s p d ms → r ≡ crosses b (namesOf ms)
+-- r says whether the block has a name of the members at p in t
+pub record Meets (s a : List ℕ) (k : ℕ) (t : List ℕ) (p d : ℕ) (r : Bool) : Type 0 where
+  pub is : (b : List (List ℕ)) (ms : LMembers) → Block s a k b → MembersAt t p d ms → r ≡ crosses b (namesOf ms)
 
 -- what the search of a block says of whether a name stands twice: it does; or it does among the members past the block
 abbrev pub Says : List ℕ → ℕ → Search → Bool → Type 0

@@ -29,7 +29,7 @@ fn block_twice(s: &[u8], from: usize, depth: usize) -> Search
     let mut p = from;
     'pairs: loop {
         if count == 64 {
-            if block_meets(s, &names, &fingerprints, p, depth) {
+            if block_meets(s, &names, &fingerprints, s, p, depth) {
                 return Search::Twice;
             }
             return Search::Past(End::At(p));
@@ -59,28 +59,29 @@ fn block_twice(s: &[u8], from: usize, depth: usize) -> Search
     Search::Twice
 }
 
-// Whether a name from `from` on is equal to one of the 64 names of the block.
+// Whether a name of the members at `from` in t is equal to one of the 64 names of the block, which stand in s.
 fn block_meets(
     s: &[u8],
     names: &[usize; 64],
     fingerprints: &[u32; 64],
+    t: &[u8],
     from: usize,
     depth: usize,
 ) -> bool
-    requires { ⌜ (from < length (now s)) × Fingerprinted (now s) (now names) (now fingerprints) 64 ⌝ }
-    ensures { λ r. ⌜ Meets (now (s .entry)) (now (names .entry)) 64 from depth r ⌝ }
+    requires { ⌜ (from < length (now t)) × Fingerprinted (now s) (now names) (now fingerprints) 64 ⌝ }
+    ensures { λ r. ⌜ Meets (now (s .entry)) (now (names .entry)) 64 (now (t .entry)) from depth r ⌝ }
 {
     let mut p = from;
     'pairs: loop {
-        let print = fingerprint(s, p + 1);
+        let print = fingerprint(t, p + 1);
         let mut i = 0;
         while i < 64 {
-            if same_by_fingerprint(s, p + 1, s, names[i], print, fingerprints[i]) {
+            if same_by_fingerprint(t, p + 1, s, names[i], print, fingerprints[i]) {
                 break 'pairs;
             }
             i += 1;
         }
-        let m = entry_at(s, p, depth);
+        let m = entry_at(t, p, depth);
         let next = m.next;
         match next {
             End::At(q) => {
@@ -122,7 +123,6 @@ pub(crate) fn names_twice(s: &[u8], from: usize, depth: usize) -> bool
 
 // Whether two members of the object whose opening brace is before `from` have one name. They count if the object is read to its end.
 fn object_twice(s: &[u8], from: usize, depth: usize) -> bool
-    requires { ⌜ from ≤ length (now s) ⌝ }
     ensures { λ r. ⌜ ObjectTwice (now (s .entry)) from depth r ⌝ }
 {
     let p = skip_ws(s, from);

@@ -13,16 +13,16 @@ use Rattle.json_check.proofs.names.block_meets.Statement.{statement}
 use Rattle.json_check.proofs.names.block_meets.Tie as tie
 
 abbrev Inv-loop : tie.InvT-loop
-Inv-loop s names fingerprints from depth p print i₀ i = (i ≤ 64) × Without s names i (p + 1)
+Inv-loop s names fingerprints t from depth p print i₀ i = (i ≤ 64) × Without s names i t (p + 1)
 
 abbrev μ-loop : tie.MeasureT-loop
-μ-loop s names fingerprints from depth p print i₀ i = 64 - i
+μ-loop s names fingerprints t from depth p print i₀ i = 64 - i
 
 abbrev Inv-pairs : tie.InvT-pairs
-Inv-pairs s names fingerprints from depth p₀ p = (p < length s) × ((r : Bool) → Meets s names 64 p depth r → Meets s names 64 from depth r)
+Inv-pairs s names fingerprints t from depth p₀ p = (p < length t) × ((r : Bool) → Meets s names 64 t p depth r → Meets s names 64 t from depth r)
 
 abbrev μ-pairs : tie.MeasureT-pairs
-μ-pairs s names fingerprints from depth p₀ p = length s - p
+μ-pairs s names fingerprints t from depth p₀ p = length t - p
 
 pairs-holds : tie.Need-pairs-holds Inv-loop μ-loop Inv-pairs μ-pairs
 pairs-holds c = (omega arith, λ r h. h)
@@ -33,7 +33,7 @@ loop-holds c = (omega arith, law.without-start _)
 same-by-fingerprint-requires : tie.Need-same-by-fingerprint-requires Inv-loop μ-loop Inv-pairs μ-pairs
 same-by-fingerprint-requires c κs =
     let l = c .before .before in
-    (l .before .before .fingerprint .ensures, l .before .before .before .before .before .pre .1 .fingerprints _ (l .loop-test .taken))
+    (l .before .before .fingerprint .ensures, l .before .before .before .before .before .before .pre .1 .fingerprints _ (l .loop-test .taken))
 
 loop-again : tie.Need-loop-again Inv-loop μ-loop Inv-pairs μ-pairs
 loop-again c = (omega arith, law.without-next (c .before .before .before .before .before .loop .inv .1) (sym (c .before .same-by-fingerprint .ensures) ∙ c .if1 .left))

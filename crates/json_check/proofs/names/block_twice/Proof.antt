@@ -13,7 +13,7 @@ use Rattle.json_check.proofs.names.block_twice.Statement.{statement}
 use Rattle.json_check.proofs.names.block_twice.Tie as tie
 
 abbrev Inv-loop : tie.InvT-loop
-Inv-loop s from depth names fingerprints count p print i₀ i = (i ≤ count) × Without s names i (p + 1)
+Inv-loop s from depth names fingerprints count p print i₀ i = (i ≤ count) × Without s names i s (p + 1)
 
 abbrev μ-loop : tie.MeasureT-loop
 μ-loop s from depth names fingerprints count p print i₀ i = count - i
