@@ -14,6 +14,11 @@ filled room s = s ++ replicate (room - length s) 0
 abbrev pub laid : List ℕ → List ℕ → List ℕ
 laid s out = s ++ drop (length s) out
 
+-- s stands at its front, n bytes long, and what follows is as it was
+pub record Front (s old : List ℕ) (n : ℕ) (out : List ℕ) : Type 0 where
+  pub size : n ≡ length s
+  pub buffer : out ≡ laid s old
+
 -- the buffer with every byte 0
 abbrev pub cleared : List ℕ → List ℕ
 cleared out = replicate (length out) 0

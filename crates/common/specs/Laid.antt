@@ -1,13 +1,13 @@
--- Laws of a lent buffer: bytes laid at its front, piece after piece, and the part of it from a place on.
+-- Laws of a lent buffer: bytes laid at its front, piece after piece, and the part of it from a place on; a copy into zeros.
 use mathlib.Core.Path.{_≡_, ap, ap₂, sym, _∙_}
 use mathlib.Core.List.{List, [], _∷_, _++_, append-assoc, append-nil}
 use Prim.Native.Nat.{ℕ, suc, _+_, _-_, _≤_}
-use native.Mathlib.Nat.{le-refl}
+use native.Mathlib.Nat.{le-refl, zero-add}
 use native.Mathlib.Omega.{arith}
 use lib.ListN.{length, take, drop, set, replicate, length-append, length-drop, drop-of-length-le}
-use lib.Seq.{sets, sets-eq, take-at, drop-at, drop-drop, take-all, length-take-le}
+use lib.Seq.{sets, sets-eq, paste, take-at, drop-at, drop-drop, take-all, take-length, length-take-le}
 use borrow.Rule.Slice.PartMut.{putMid}
-use Rattle.common.specs.Buffer.{filled, laid}
+use Rattle.common.specs.Buffer.{filled, laid, Front, drop-replicate}
 
 -- stores in a row, as the code has them
 pub three-stores : (l : List ℕ) (n a b c : ℕ) → set (set (set l n a) (n + 1) b) (n + 2) c ≡ sets l n (a ∷ b ∷ c ∷ [])
@@ -36,6 +36,10 @@ pub cleared-from : (n room : ℕ) (b z : List ℕ) → length b ≡ room → n �
 cleared-from n room b z e h k =
     let m : length (take (length b - n) (drop n b)) ≡ room - length (take n b) = ap length (part-from n b) ∙ omega (arith, length-drop n b, length-take-le n b h) in
     put-from n b z ∙ ap (λ (x : List ℕ). take n b ++ x) (k ∙ ap (λ (x : ℕ). replicate x 0) m)
+
+-- ZEROS, with r copied over their start
+pub copied-zeros : (room : ℕ) (r : List ℕ) → paste (replicate room 0) 0 r (length r) ≡ filled room r
+copied-zeros room r = rw (take-length, zero-add, drop-replicate)
 
 -- BYTES AT THE FRONT
 
@@ -66,6 +70,26 @@ module _ (p out : List ℕ) (n : ℕ) (h : length p ≡ n) where
       ∙ ap₂ (λ (u v : List ℕ). (u ++ q) ++ v) take-laid (sym (drop-drop (length q) n (laid p out)) ∙ ap (drop (length q)) drop-laid)
       ∙ append-assoc p q (drop (length q) (drop n out))
       ∙ laid-behind q
+
+  -- .. and by a copy
+  pub laid-copied : (q : List ℕ) → paste (laid p out) n q (length q) ≡ laid (p ++ q) out
+  laid-copied q = rw (take-length q, take-laid, ← drop-drop (length q) n (laid p out), drop-laid) (append-assoc p q (drop (length q) (drop n out)) ∙ laid-behind q)
+
+-- A FRONT
+
+module _ {s old : List ℕ} {n : ℕ} {out : List ℕ} (f : Front s old n out) where
+  pub front-is : take n out ≡ s
+  front-is = ap (take n) (f .buffer) ∙ take-laid s old n (sym (f .size))
+
+  pub front-length : n ≤ length old → length out ≡ length old
+  front-length h = ap length (f .buffer) ∙ length-laid s old n (sym (f .size)) h
+
+  -- k bytes more
+  pub front-copied : (q new : List ℕ) (k : ℕ) → k ≡ length q → new ≡ paste out n q (length q) → Front (s ++ q) old (n + k) new
+  front-copied q new k l e = record {
+    size = omega (arith, f .size, length-append s q);
+    buffer = e ∙ ap (λ (x : List ℕ). paste x n q (length q)) (f .buffer) ∙ laid-copied s old n (sym (f .size)) q;
+  }
 
 -- what f gives for p stands at the front; then so does what it gives for p and t, once its t is stored behind, or written into the part there
 module _ (f : List ℕ → List ℕ) (p t out₀ : List ℕ) (n : ℕ) (append : f (p ++ t) ≡ f p ++ f t) (h : length (f p) ≡ n) where

@@ -2,24 +2,19 @@
 use mathlib.Core.Path.{_≡_, refl, ap, sym, _∙_}
 use mathlib.Core.List.{List, [], _∷_, _++_, map}
 use Prim.Native.Nat.{ℕ, _+_, _≤_, _<_}
-use native.Mathlib.Nat.{zero-add}
 use native.Mathlib.Numerals.{add-one}
 use borrow.Author.Tests.{lt-ltb, le-ltb}
 use lib.ListN.{length, getD, take, set, replicate}
-use lib.Seq.{paste, take-length, take-suc, take-suc-set}
-use Rattle.common.specs.Buffer.{filled, drop-replicate}
+use lib.Seq.{paste, take-suc, take-suc-set}
+use Rattle.common.specs.Laid.{copied-zeros}
 use Rattle.hmac.specs.Hmac.{keyBlock}
-
--- zeros, with r written over their start
-front : (room : ℕ) (r : List ℕ) → paste (replicate room 0) 0 r (length r) ≡ filled room r
-front room r = rw (take-length, zero-add, drop-replicate)
 
 module _ (hash : List ℕ → List ℕ) (block : ℕ) (key : List ℕ) where
   pub short-key : length key ≤ block → paste (replicate block 0) 0 key (length key) ≡ keyBlock hash block key
-  short-key h = simp (le-ltb block (length key) h) (front block key)
+  short-key h = simp (le-ltb block (length key) h) (copied-zeros block key)
 
   pub long-key : (h : List ℕ) → h ≡ hash key → block < length key → paste (replicate block 0) 0 h (length h) ≡ keyBlock hash block key
-  long-key h e l = simp (lt-ltb block (length key) l) (rw e (front block (hash key)))
+  long-key h e l = simp (lt-ltb block (length key) l) (rw e (copied-zeros block (hash key)))
 
 map-snoc : (f : ℕ → ℕ) (xs : List ℕ) (a : ℕ) → map f (xs ++ (a ∷ [])) ≡ map f xs ++ (f a ∷ [])
 map-snoc f [] a = refl

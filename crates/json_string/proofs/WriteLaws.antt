@@ -3,9 +3,9 @@ use mathlib.Core.Path.{_≡_, refl, sym, ap, _∙_, subst}
 use mathlib.Core.List.{List, [], _∷_, _++_, append-nil, append-assoc}
 use Prim.Native.Nat.{ℕ, _+_, _-_, _≤_, _<_}
 use native.Mathlib.Omega.{arith}
-use lib.ListN.{length, take, drop, getD, length-append, take-append-drop, replicate}
-use lib.Seq.{paste, length-paste, take-paste, drop-paste, take-length, drop-drop, length-take-le}
+use lib.ListN.{length, drop, getD, length-append, replicate}
 use borrow.Author.Tests.{le-leb, lt-leb}
+use Rattle.common.specs.Buffer.{Front}
 use Rattle.json_grammar.specs.Reader.{Got, bad, got, over}
 use Rattle.json_string.specs.declared.End.{End}
 use Rattle.json_string.specs.declared.End.the-variants.{At, Bad}
@@ -17,41 +17,9 @@ use Rattle.json_string.specs.TextLaws.{text-quote, text-step}
 use Rattle.json_characters.specs.Utf8.{octets, utf8}
 use Rattle.json_string.specs.Steps.{Wrote, Writes}
 
--- a buffer of which the first n bytes were written
-pub record Front (old out : List ℕ) (n : ℕ) : Type 0 where
-  pub fits : n ≤ length old
-  pub same : length out ≡ length old
-  pub rest : drop n out ≡ drop n old
-
-pub front-none : (old : List ℕ) → Front old old 0
-front-none old = record { fits = omega arith; same = refl; rest = refl }
-
--- k bytes bs more
-module _ (old out new bs : List ℕ) (n k : ℕ) (f : Front old out n) (h : n + k ≤ length old) (l : k ≡ length bs) (e : new ≡ paste out n bs (length bs)) where
-  at-k : new ≡ paste out n bs k
-  at-k = e ∙ ap (paste out n bs) (sym l)
-
-  pub front-more : Front old new (n + k)
-  front-more =
-      record {
-        fits = h;
-        same = ap length at-k ∙ length-paste out n bs k (omega (arith, f .same)) (omega arith) ∙ f .same;
-        rest =
-            ap (drop (n + k)) at-k ∙ drop-paste out n bs k (omega (arith, f .same, f .fits)) (omega arith)
-            ∙ sym (drop-drop k n out) ∙ ap (drop k) (f .rest) ∙ drop-drop k n old;
-      }
-
-  front-take : take (n + k) new ≡ take n out ++ bs
-  front-take =
-      ap (take (n + k)) at-k ∙ take-paste out n bs k (omega (arith, f .same, f .fits)) (omega arith)
-      ∙ ap (λ (j : ℕ). take n out ++ take j bs) l ∙ ap (λ (b : List ℕ). take n out ++ b) (take-length bs)
-
-  pub front-writes : (s : List ℕ) (i : ℕ) (end : List ℕ) (r : End) → Writes s i (take (n + k) new) old end r → Writes s i (take n out ++ bs) old end r
-  front-writes s i end r h = rw front-take at h
-
--- there is no room for k more
-pub too-long : (old out bs : List ℕ) (n k : ℕ) → Front old out n → k ≡ length bs → length out - n < k → length old < length (take n out) + length bs
-too-long old out bs n k f l h = omega (arith, length-take-le n out (omega (arith, f .fits, f .same)), f .same, f .fits)
+-- there is no room for k bytes more behind the front
+pub too-long : {w old out : List ℕ} (bs : List ℕ) (n k : ℕ) → Front w old n out → length out ≡ length old → k ≡ length bs → length out - n < k → length old < length w + length bs
+too-long bs n k f h l x = omega (arith, f .size)
 
 -- WRITES
 
@@ -60,11 +28,9 @@ unfolding Writes
 writes-none s i w old new h = rw h tt
 
 module _ (s : List ℕ) (i : ℕ) (h : i < length s) (old : List ℕ) where
-  pub writes-quote : (n : ℕ) (out : List ℕ) → getD s i 0 ≡ 0x22 → Front old out n → Writes s i (take n out) old out (At n)
+  pub writes-quote : (w : List ℕ) (n : ℕ) (out : List ℕ) → getD s i 0 ≡ 0x22 → Front w old n out → n ≤ length old → Writes s i w old out (At n)
   unfolding Writes utf8
-  writes-quote n out b f =
-      let l : length (take n out) ≡ n = length-take-le n out (omega (arith, f .fits, f .same)) in
-      rw (text-quote s i h b, append-nil (take n out)) (omega (arith, f .fits), sym l, sym (take-append-drop n out) ∙ ap (λ (r : List ℕ). take n out ++ r) (f .rest))
+  writes-quote w n out b f k = rw (text-quote s i h b, append-nil w) (omega (arith, f .size), f .size, f .buffer ∙ ap (λ (m : ℕ). w ++ drop m old) (sym (f .size)))
 
   module _ (b : getD s i 0 ≡ 0x22 → ⊥) (w new : List ℕ) (c e : ℕ) (x : CharAt s i (Code c e)) where
     -- the string's octets, the first character's apart

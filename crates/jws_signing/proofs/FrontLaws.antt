@@ -7,8 +7,8 @@ use native.Mathlib.Omega.{arith}
 use lib.ListN.{length, take, drop, set, length-append, length-drop, length-set}
 use lib.Seq.{take-suc-set, drop-set-lt, drop-drop, drop-append-add, length-take-le}
 use borrow.Rule.Slice.PartMut.{putMid}
-use Rattle.common.specs.Buffer.{laid}
-use Rattle.common.specs.Laid.{part-from, put-from, take-laid}
+use Rattle.common.specs.Buffer.{laid, Front}
+use Rattle.common.specs.Laid.{part-from, put-from, front-is}
 use Rattle.base64url_rules.specs.Base64url.{encode, encodedLength}
 use Rattle.base64url_rules.specs.LengthLaws.{length-encode}
 use Rattle.base64url_rules.specs.Outcome.{Encoding, encodedTo, encoding}
@@ -18,7 +18,6 @@ use Rattle.hmac.specs.Hmac.{HMACSHA256}
 use Rattle.jws_rules.specs.Segments.{period, _dot_}
 use Rattle.jws_rules.specs.SegmentLaws.{length-dot}
 use Rattle.jws_rules.specs.Token.{tokenOf}
-use Rattle.jws_signing.specs.Written.{Front}
 
 -- the text of s in a buffer that has room for it
 text-laid : (s out : List ℕ) {r : Encoded} {buffer : List ℕ} → encodedTo r buffer ≡ encoding s out → length (encode s) ≤ length out → buffer ≡ laid (encode s) out
@@ -68,14 +67,11 @@ module _ (s token : List ℕ) (at : ℕ) (fits : at + 1 + length (encode s) ≤ 
 past : (s u token : List ℕ) → drop (length (s ++ u)) (laid s token) ≡ drop (length (s ++ u)) token
 past s u token = rw (length-append s u) (drop-append-add s (drop (length s) token) (length u) ∙ drop-drop (length u) (length s) token)
 
-front-is : (s token₀ : List ℕ) {n : ℕ} {token : List ℕ} → Front s token₀ n token → take n token ≡ s
-front-is s token₀ {n} f = ap (take n) (f .buffer) ∙ take-laid s token₀ n (sym (f .size))
-
 -- a segment written behind a front is part of one front
 pub front-more : (s u token₀ : List ℕ) {n m : ℕ} {token₁ token₂ : List ℕ}
     → Front s token₀ n token₁ → Front (take n token₁ dot u) token₁ m token₂ → Front (s dot u) token₀ m token₂
 front-more s u token₀ f g =
-    let e = front-is s token₀ f in
+    let e = front-is f in
     record {
       size = g .size ∙ rw e;
       buffer = g .buffer ∙ rw (e, f .buffer) (ap (λ (l : List ℕ). (s dot u) ++ l) (past s (period ∷ u) token₀));
@@ -93,4 +89,4 @@ pub token-laid : (secret h p token₀ mac : List ℕ) {n m : ℕ} {token₁ toke
 token-laid secret h p token₀ mac {n} f e g =
     let k : n - 0 ≡ n = omega arith in
     let whole = front-more (encode h dot encode p) (encode mac) token₀ f g .buffer in
-    whole ∙ rw (append-assoc (encode h) (period ∷ encode p) (period ∷ encode mac), e, k, front-is _ token₀ f)
+    whole ∙ rw (append-assoc (encode h) (period ∷ encode p) (period ∷ encode mac), e, k, front-is f)

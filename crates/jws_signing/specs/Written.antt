@@ -4,17 +4,12 @@ use mathlib.Core.List.{List, [], _∷_}
 use Prim.Native.Nat.{ℕ, _≤_}
 use lib.Dec.{ltb}
 use lib.ListN.{length, take}
-use Rattle.common.specs.Buffer.{filled, laid}
+use Rattle.common.specs.Buffer.{filled}
 use Rattle.common.specs.First.{Test, _when_, first}
 use Rattle.jws_rules.specs.declared.Signed.{Signed}
 use Rattle.jws_rules.specs.Outcomes.{SignOutcome, signedAs, unsigned}
 use Rattle.jws_rules.specs.Tests.{settle}
 use Rattle.jws_rules.specs.Token.{tokenMost, tokenOf, finishedLength}
-
--- s stands at the buffer's front, n bytes long; what follows is as it was
-pub record Front (s token₀ : List ℕ) (n : ℕ) (token : List ℕ) : Type 0 where
-  pub size : n ≡ length s
-  pub buffer : token ≡ laid s token₀
 
 -- a refusal's result
 abbrev pub unsignedResult : ℕ → Signed

@@ -2,12 +2,13 @@
 use mathlib.Core.Path.{_≡_, refl, ap, sym, _∙_}
 use mathlib.Core.List.{List, _∷_, _++_, append-assoc}
 use Prim.Native.Nat.{ℕ, zero, suc, _+_, _-_, _*_, _/_, _%_, _^_, _≤_, _<_}
-use native.Mathlib.Nat.{zero-add, mul-assoc, pow-succ', mod-add-div}
+use native.Mathlib.Nat.{mul-assoc, pow-succ', mod-add-div}
 use native.Mathlib.Omega.{arith}
 use lib.ListN.{length, take, set, replicate, length-append, length-replicate}
-use lib.Seq.{paste, take-length, take-append-add, take-paste, take-all, set-append-seam}
+use lib.Seq.{paste, take-append-add, take-paste, take-all, set-append-seam}
 use Rattle.common.specs.BigEndian.{bigEndian, length-bigEndian}
-use Rattle.common.specs.Buffer.{take-replicate, drop-replicate}
+use Rattle.common.specs.Buffer.{take-replicate}
+use Rattle.common.specs.Laid.{copied-zeros}
 use Rattle.sha2_compression.specs.Parameters.{Parameters, sha-256}
 use Rattle.sha2.specs.Hash.{lengthBytes, zeros, padding}
 use Rattle.sha2.specs.PaddingLaws.{length-padding}
@@ -35,7 +36,7 @@ marked : (N a : ℕ) (r : List ℕ) → length r < N
     → set (paste (replicate N 0) 0 r (length r)) (length r) a ≡ r ++ (a ∷ replicate (N - 1 - length r) 0)
 marked N a r h =
     let e : N - length r ≡ suc (N - 1 - length r) = omega arith in
-    rw (take-length, zero-add, drop-replicate, e, set-append-seam)
+    rw (copied-zeros, e, set-append-seam)
 
 -- .. and then, past z zeros, the list b
 written : (N a z : ℕ) (r b : List ℕ) → length r + suc z + length b ≤ N
