@@ -1,4 +1,4 @@
--- An integer's decimal text: "a number without fraction or exponent from -9,223,372,036,854,775,808 to 9,223,372,036,854,775,807. `-0` has the value 0."
+-- An integer's decimal text: "a number from -2^63 to 2^63 - 1, spelled without `.`, `e` or `E`". "`-0` is zero."
 use mathlib.Core.Bool.{Bool, true, false, cond, _&&_}
 use mathlib.Core.List.{List, [], _∷_}
 use Prim.Native.Nat.{ℕ, _+_, _*_, _-_}

@@ -42,7 +42,7 @@ abbrev pub ValueAt : List ℕ → List ℕ → LMembers → Place → Type 0
 ValueAt h n lnil p = ⊥
 ValueAt h n (lcons m ms) p = ((nameOf m ≡ n) × (p ≡ valuePlace (placed h m))) ⊎ ValueAt h n ms p
 
--- "the start and length of the raw text between the quotes (0 and 0 if absent)"
+-- "where the text between the quotation marks begins and how long it is, as spelled; two zeros for a missing one"
 abbrev pub RawText : List ℕ → List ℕ → LMembers → Place → Type 0
 RawText h n ms p = ValueAt h n ms p ⊎ (((q : Place) → ValueAt h n ms q → ⊥) × (p ≡ nowhere))
 

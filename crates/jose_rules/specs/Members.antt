@@ -1,4 +1,4 @@
--- An object's members by name, and what their values say. "Names are equal when their code points are."
+-- An object's members by name, and what their values say. "Names [..] are compared by code points."
 use mathlib.Core.Path.{_≡_}
 use mathlib.Core.Logic.{_⊎_}
 use mathlib.Core.List.{List, [], _∷_}
@@ -38,7 +38,7 @@ byKind string number array other (objectV ms) = other
 abbrev pub string : Kind (List ℕ)
 string v = byKind some (λ cs. none) (λ vs. none) none v
 
--- "an array of strings only" says them in order
+-- "an array in which everything is a string" says them in order
 unfoldable pub stringsIn : Values → Option (List (List ℕ))
 stringsIn vnil = some []
 stringsIn (vcons v vs) = bind (string v) (λ s. bind (stringsIn vs) (λ ns. some (s ∷ ns)))
@@ -46,7 +46,7 @@ stringsIn (vcons v vs) = bind (string v) (λ s. bind (stringsIn vs) (λ ns. some
 abbrev pub strings : Kind (List (List ℕ))
 strings v = byKind (λ s. none) (λ cs. none) stringsIn none v
 
--- "a number without fraction or exponent from -9,223,372,036,854,775,808 to 9,223,372,036,854,775,807" says its value
+-- "a number from -2^63 to 2^63 - 1, spelled without `.`, `e` or `E`" says its value
 abbrev pub valueOf : Integer → Option ℤ
 valueOf (Is z) = some z
 valueOf No = none

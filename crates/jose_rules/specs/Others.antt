@@ -1,4 +1,4 @@
--- "Members `jku`, `jwk`, `x5u`, `x5t`, `x5c` never choose a key": left out, they change neither the answer nor the choice; nor does any other unknown member.
+-- "No `jku`, `jwk`, `x5u`, `x5t` or `x5c` has a say in which key is taken": left out, they change neither the answer nor the choice; nor does any other unknown member.
 use mathlib.Core.Path.{_≡_, refl, ap}
 use mathlib.Core.Bool.{Bool, true, false, cond, not, _||_}
 use mathlib.Core.List.{List, [], _∷_}

@@ -23,9 +23,9 @@ use Rattle.jose_rules.specs.Decision.{choiceOf, decided, decisionTests, 
 -- the rules, in their order
 abbrev pub deciding : List ℕ → List ℕ → List Rule
 deciding h T =
-    -- "bad table"
+    -- "the table is bad"
     2 on (Wellformed T → ⊥)
-    -- "header longer than 1,024 bytes"
+    -- "the header has more than 1,024 bytes"
     ∷ 5 on (longest < length h)
     -- 7 to 14
     ∷ heading h (keys T)

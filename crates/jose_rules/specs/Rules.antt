@@ -15,46 +15,46 @@ use Rattle.keytable_rules.specs.Key.{Key, key, Named, allowsHS256, allowsFormat
 use Rattle.jose_rules.specs.Names.{alg, kid, typ, cty, crit, fmt, HS256}
 use Rattle.jose_rules.specs.Members.{Has, Lacks, string, strings, integer, Says, Wrong, Some}
 
--- 9: a known member is missing or has the wrong kind
+-- 9: `alg` is missing, or a known member is of the wrong kind
 abbrev pub MissingOrWrong : Members → Type 0
 MissingOrWrong ms =
-    -- "`alg` absent or not a string;
+    -- "`alg` is missing, or a member with a meaning isn't what it must be": `alg` a string;
     Lacks alg ms ⊎ Wrong string alg ms
-    -- `kid`, `typ`, `cty` present and not a string;
+    -- `kid`, `typ` and `cty`, where they stand, strings;
     ⊎ Wrong string kid ms ⊎ Wrong string typ ms ⊎ Wrong string cty ms
-    -- `crit` present and not an array of strings only;
+    -- `crit` "an array in which everything is a string";
     ⊎ Wrong strings crit ms
-    -- `fmt` present and not a number without fraction or exponent from .. to .."
+    -- `fmt` "a number from -2^63 to 2^63 - 1, spelled without `.`, `e` or `E`"
     ⊎ Wrong integer fmt ms
 
 -- `crit` lists the name n
 abbrev pub Listed : List ℕ → Members → Type 0
 Listed n ms = (ns : List (List ℕ)) × Says strings crit ms ns × Some (λ m. m ≡ n) ns
 
--- 10: critical rule broken
+-- 10: "`crit` breaks its rules, or `fmt` stands there and isn't listed"
 abbrev pub CriticalBroken : Members → Type 0
 CriticalBroken ms =
     ((ns : List (List ℕ)) × Says strings crit ms ns
-    -- "`crit` is empty, has a name twice,
+    -- "`crit`, where it stands, lists at least one name, none of them twice,
     × ((ns ≡ []) ⊎ Repeated ns
-    -- has a name other than `fmt`, or a name that the top object lacks;
+    -- only names that this library understands (that is `fmt` alone), and only members that are there.
     ⊎ Some (λ n. n ≡ fmt → ⊥) ns ⊎ Some (λ n. Lacks n ms) ns))
-    -- or `fmt` is present and `crit` doesn't list it."
+    -- A `fmt` that no `crit` lists is a fault."
     ⊎ ((v : Value) × Has fmt v ms × (Listed fmt ms → ⊥))
 
 -- key i is the chosen one
 abbrev pub Chosen : Members → List Key → ℕ → Type 0
 Chosen ms ks i =
-    -- "Key: the id equal to the UTF-8 of `kid`.
+    -- "The key is the one whose id is the UTF-8 of `kid`.
     ((s : List ℕ) × Says string kid ms s × Named (utf8 s) ks i)
-    -- With no `kid`, the only key of a one-key table"
+    -- A token without `kid` gets the key of a table that has just one, and of another table none."
     ⊎ (Lacks kid ms × ((length ks ≡ 1) × (i ≡ 0)))
 
--- "Format: `fmt`, or 1 if absent."
+-- "the payload's format; 1 if missing"
 abbrev pub Format : Members → ℤ → Type 0
 Format ms z = Says integer fmt ms z ⊎ (Lacks fmt ms × (z ≡ pos 1))
 
--- "If it lies outside 1 to 8, or the key's bit for it is not set" (from 1 to 8, `natAbs z` is z)
+-- "the key doesn't allow the format, or there is no such format": "Formats are 1 to 8." (For these `natAbs z` is z.)
 abbrev pub Lacking : Key → ℤ → Type 0
 Lacking k z = (z <ℤ pos 1) ⊎ (pos 8 <ℤ z) ⊎ (allowsFormat k (natAbs z) ≡ false)
 
@@ -63,13 +63,13 @@ abbrev pub known : Members → List Key → List Rule
 known ms ks =
     9 on MissingOrWrong ms
     ∷ 10 on CriticalBroken ms
-    -- alg isn't `HS256`
+    -- "`alg` is another algorithm"
     ∷ 11 on ((s : List ℕ) × Says string alg ms s × (s ≡ HS256 → ⊥))
-    -- no key found
+    -- "no key is found"
     ∷ 12 on ((i : ℕ) → Chosen ms ks i → ⊥)
-    -- the key's HS256 bit is 0
+    -- "the key doesn't allow HS256"
     ∷ 13 on ((i : ℕ) × Chosen ms ks i × (allowsHS256 (key ks i) ≡ false))
-    -- the key's formats lack this format
+    -- "the key doesn't allow the format, or there is no such format"
     ∷ 14 on ((i : ℕ) × Chosen ms ks i × ((z : ℤ) × Format ms z × Lacking (key ks i) z))
     ∷ []
 

@@ -1,4 +1,4 @@
--- "One object has a name twice", as a condition; and the tests that decide it.
+-- "An object [..] has a name twice", as a condition; and the tests that decide it.
 use mathlib.Core.Path.{_≡_, refl, sym, subst}
 use mathlib.Core.Logic.{_⊎_, inl, inr}
 use mathlib.Core.List.{List, [], _∷_}

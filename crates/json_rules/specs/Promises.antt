@@ -173,7 +173,7 @@ module _ (h : List ℕ) where
 abbrev pub memberNumber : List ℕ → ℕ → ℕ
 memberNumber h k = numberOf (memberOf h k)
 
--- "A header is "read" when the member reader, whichever member it is asked for, answers 0 or 16."
+-- "The member call tells whether a header is read: then it answers 0 for each of its members and 16 for every other k."
 abbrev pub Read : List ℕ → Type 0
 Read h = (k : ℕ) → (memberNumber h k ≡ 0) ⊎ (memberNumber h k ≡ 16)
 
@@ -245,7 +245,7 @@ module _ (h : List ℕ) (l : length h ≤ longest) where
       fine c = fine-number (ltb longest (length h)) (not (isGot (read deepest h))) (twiceIn (membersIn (read deepest h))) (missing (member h 0 (membersIn (read deepest h))))
           (⊎-elim (λ e. inl (sym (member-number h 0) ∙ e)) (λ e. inr (sym (member-number h 0) ∙ e)) c)
 
--- "If it isn't read, every member asked for gets the same one of 5, 7 and 8."
+-- "To a header that isn't read it gives one refusal of 5, 7 and 8, the same for every k"
 pub unread : (h : List ℕ) → (Read h → ⊥) → (n : ℕ) × (among n (5 ∷ 7 ∷ 8 ∷ []) ≡ true) × ((k : ℕ) → memberOf h k ≡ Refused n)
 unread h r = go (checked h) refl
   where

@@ -44,7 +44,7 @@ pub rows :
 unfolding answers
 rows = (refl, λ k. refl, λ k. refl, λ k. refl, λ k. refl, refl, refl, λ k. refl, λ t u p q. one-reading t u (p ∙ sym q), refl, λ k. refl)
 
--- "Header 1,024 bytes: rule 5 passes it; 1,025: 5."
+-- "headers of 1,024 bytes, [..] and of 1,025"
 module _ (h : List ℕ) where
   pub length-passes : length h ≤ 1024 → checked h ≡ 5 → ⊥
   length-passes l e = let k = header-first h 5 refl .0 e .0 in omega arith

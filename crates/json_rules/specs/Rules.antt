@@ -8,7 +8,7 @@ use Rattle.json_grammar.specs.Twice.{TwiceNamed}
 use Rattle.json_grammar.specs.Value.{Members, mnil, mcons, objectV}
 use Rattle.json_grammar.specs.Grammar.{Derivation, Derived, bytes, readingOf}
 
--- Rule 5: a header has at most 1,024 bytes. Rule 7: the top object is depth 1, and no depth exceeds 8.
+-- Rule 5: "At most 1,024 bytes". Rule 7: "The top object counts as depth 1, each array or object within another adds 1, and 8 is the most."
 abbrev pub longest : ℕ
 longest = 1024
 
@@ -32,13 +32,13 @@ NoMember h k = (t : Derivation) × (bytes t ≡ h) × (count (readingOf t) ≤ k
 -- the grammar's rules
 abbrev pub grammarRules : ℕ → List ℕ → List Rule
 grammarRules d h =
-    -- "header isn't derived by the grammar, or nests too deep"
+    -- "the header isn't JSON by the grammar, or goes deeper than 8"
     7 on (Derived d h → ⊥)
-    -- "one object has a name twice"
+    -- "an object in the header has a name twice"
     ∷ 8 on NameTwice h
     ∷ []
 
--- .. after "header longer than 1,024 bytes"
+-- .. after "the header has more than 1,024 bytes"
 abbrev pub headerRules : List ℕ → List Rule
 headerRules h = 5 on (longest < length h) ∷ grammarRules deepest h
 

@@ -19,7 +19,8 @@ pub record VerifyOutcome : Type 0 where
 abbrev pub given : Verified → List ℕ → List ℕ → VerifyOutcome
 given r header payload = record { gives = r; header = header; payload = payload }
 
--- "The record has the header length, payload length, key index, whether `kid` was there, the format, and for `typ` and `cty` the start and length of the raw text"
+-- "The record tells the lengths of header and payload, which key it was, by its number in the table, whether the header has `kid`, the format, and of `typ` and `cty`
+-- where the text between the quotation marks begins and how long it is"
 abbrev pub recordOf : List ℕ → List ℕ → HeaderChoice → Record
 recordOf h p c =
     record
@@ -28,15 +29,15 @@ recordOf h p c =
 abbrev pub zeroRecord : Record
 zeroRecord = record { header = 0; payload = 0; key = 0; named = false; format = 0; typ = nowhere; cty = nowhere }
 
--- "A refusal returns its number, a record of zeros [..]; it zeroes the buffers lent for writing, end to end."
+-- "After a refusal each buffer that was lent for writing is zero from its first byte to its last, and so is every word of the result"
 abbrev pub refused : ℕ → ℕ → ℕ → VerifyOutcome
 refused n hr pr = given (record { answer = n; about = zeroRecord }) (replicate hr 0) (replicate pr 0)
 
--- "the header buffer holds the decoded header, then zeros; the payload buffer holds the payload, then zeros"
+-- "the first buffer begins with the header and the second with the payload; the rest of both is zero"
 abbrev pub accepted : List ℕ → List ℕ → Record → ℕ → ℕ → VerifyOutcome
 accepted h p r hr pr = given (record { answer = 0; about = r }) (filled hr h) (filled pr p)
 
--- "a further call, given the record and that buffer, hands the payload back as a part of it (an empty part if the record's length doesn't fit)"
+-- "takes that record and the second buffer and lends the payload as a part of it [..]: for a record that asks for more than the buffer has, the part is empty"
 unfoldable pub payload : Record → List ℕ → List ℕ
 payload r buffer = cond (leb (r .payload) (length buffer)) (take (r .payload) buffer) []
 
@@ -55,11 +56,11 @@ pub record SignOutcome : Type 0 where
 abbrev pub handed : Signed → List ℕ → SignOutcome
 handed r token = record { gives = r; token = token }
 
--- "A refusal returns its number, a record of zeros [..]; it zeroes the buffers lent for writing, end to end." In signing the length is 0.
+-- a refusal: zeros, as in verifying; of the result, that is the length
 abbrev pub unsigned : ℕ → ℕ → SignOutcome
 unsigned n room = handed (record { answer = n; length = 0 }) (replicate room 0)
 
--- "the token, then zeros, and its length"
+-- "the buffer begins with the token, the rest is zero, and the token's length is told"
 abbrev pub signedAs : List ℕ → ℕ → SignOutcome
 signedAs t room = handed (record { answer = 0; length = length t }) (filled room t)
 

@@ -29,7 +29,7 @@ use Rattle.jws_rules.specs.Tests.{choiceOf, verified, verifyAnswer, made
 use Rattle.jws_rules.specs.RuleLaws.{verify-agree, verify-number, verify-is, verify-bad, sign-agree, sign-number, sign-good, sign-is, sign-bad}
 use Rattle.jws_rules.specs.AcceptedLaws.{accepted-if, accepted-only, sign-header, signed-accepted, accepted-signed}
 
--- The payload call hands back a part of the buffer, as long as the record says; "an empty part if the record's length doesn't fit".
+-- The payload call hands back a part of the buffer, as long as the record says; "for a record that asks for more than the buffer has, the part is empty".
 pub payload-part : (r : Record) (b : List ℕ) → r .payload ≤ length b → payload r b ≡ take (r .payload) b
 unfolding payload
 payload-part r b k = rw (le-leb (r .payload) (length b) k)
@@ -74,7 +74,7 @@ verify-fills t T hr pr e =
     let f = verify-is t T hr pr e in
     (ap (λ (v : VerifyOutcome). v .header) f, ap (λ (v : VerifyOutcome). v .payload) f)
 
--- .. and signing gives "the token, then zeros, and its length".
+-- .. and after signing "the buffer begins with the token, the rest is zero, and the token's length is told".
 pub sign-fills : (h p T : List ℕ) (room : ℕ) → signAnswer h p T room ≡ 0 → signed h p T room ≡ signedAs (made h p T) room
 sign-fills = sign-is
 
@@ -161,7 +161,7 @@ verify-sign t T hr pr e room k =
     ∙ ap (λ (x : List ℕ). signed h x T room) (accepted-payload t T hr pr h p r a)
     ∙ accepted-again t T hr pr h p r a room k
 
--- ANSWER 6: "Answer 6 means that a buffer is shorter than what it must hold; a longer buffer never is refused."
+-- ANSWER 6: "a buffer can't hold what belongs in it". "No buffer is refused for being too long."
 module _ (t T : List ℕ) (hr pr : ℕ) where
   pub verify-room : length (headerOf t) ≤ hr → length (payloadOf t) ≤ pr → verifyAnswer t T hr pr ≡ 6 → ⊥
   verify-room k l e = ⊎-elim (λ x. omega arith) (λ x. omega arith) (verify-first t T hr pr 6 refl .0 e .0)

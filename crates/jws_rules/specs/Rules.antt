@@ -21,39 +21,39 @@ use Rattle.jws_rules.specs.Token.{tokenMost, tokenOf, finishedLength, he
 abbrev pub Differs : List ℕ → List ℕ → Type 0
 Differs t T = (c : HeaderChoice) × HeaderChooses (headerOf t) (keys T) c × (signatureOf t ≡ HMACSHA256 (secretOf T c) (sentInput t) → ⊥)
 
--- t: the token; T: the table; hr, pr: the lengths of the buffers lent for the header and the payload. "Verifying: 1 to 15 as numbered."
+-- t: the token; T: the table; hr, pr: the lengths of the buffers lent for the header and the payload. In their order: "1 to 15".
 abbrev pub verifying : List ℕ → List ℕ → ℕ → ℕ → List Rule
 verifying t T hr pr =
-    -- "token longer than 16,384 bytes"
+    -- "the token has more than 16,384 bytes"
     1 on (tokenMost < length t)
-    -- "bad table"
+    -- "the table is bad"
     ∷ 2 on (Wellformed T → ⊥)
-    -- "token hasn't exactly two periods"
+    -- "there are fewer than two periods, or more"
     ∷ 3 on (periods t ≡ 2 → ⊥)
-    -- "a segment isn't strict base64url"
+    -- "one of the three segments isn't strict"
     ∷ 4 on ((strict (front t) ≡ false) ⊎ (strict (front (back t)) ≡ false) ⊎ (strict (back (back t)) ≡ false))
-    -- "header longer than 1,024 bytes"
+    -- "the header has more than 1,024 bytes"
     ∷ 5 on (longest < length (headerOf t))
-    -- "a buffer too short"
+    -- "a buffer can't hold what belongs in it"
     ∷ 6 on ((hr < length (headerOf t)) ⊎ (pr < length (payloadOf t)))
     -- 7 to 14
     ∷ (heading (headerOf t) (keys T)
-    -- "signature differs": "The decoded signature is exactly the 32 MAC bytes, else 15."
+    -- "the signature is another one": "The signature segment decodes to these 32 bytes and to nothing more or less."
     ++ (15 on Differs t T
     ∷ []))
 
--- h: the header; p: the payload; room: the length of the buffer lent for the token. "Signing: 2, 5, 7 to 14, then 1 (finished length), then 6."
+-- h: the header; p: the payload; room: the length of the buffer lent for the token. In their order: "2, 5, 7 to 14, 1 (of the token that would come out), 6".
 abbrev pub signing : List ℕ → List ℕ → List ℕ → ℕ → List Rule
 signing h p T room =
-    -- "bad table"
+    -- "the table is bad"
     2 on (Wellformed T → ⊥)
-    -- "header longer than 1,024 bytes"
+    -- "the header has more than 1,024 bytes"
     ∷ 5 on (longest < length h)
     -- 7 to 14
     ∷ (heading h (keys T)
-    -- "token longer than 16,384 bytes", by its finished length
+    -- "the token has more than 16,384 bytes", "the token that would come out"
     ++ (1 on (tokenMost < finishedLength h p)
-    -- "a buffer too short"
+    -- "a buffer can't hold what belongs in it"
     ∷ 6 on (room < finishedLength h p)
     ∷ []))
 

@@ -1,4 +1,4 @@
--- On both sides of the line: the answer on either side of each limit, and those of the shortest tokens. A limit passes what another rule may still refuse;
+-- "Both sides of a limit": the answer on either side of each, and those of the shortest tokens. A limit passes what another rule may still refuse;
 -- `earlier .. n` are the rules before n. Tokens and headers that stand at the limits: Inhabited.
 use mathlib.Core.Path.{_≡_, refl, ap, _∙_}
 use mathlib.Core.Logic.{inl, inr}
@@ -26,28 +26,28 @@ use Rattle.jws_rules.specs.Promises.{verify-first, sign-first}
 
 -- VERIFYING
 module _ (t T : List ℕ) (hr pr : ℕ) where
-  -- "Token of 16,384 bytes: rule 1 passes it; 16,385: 1."
+  -- "tokens of 16,384 and 16,385 bytes"
   pub token-passes : length t ≤ 16384 → verifyAnswer t T hr pr ≡ 1 → ⊥
   token-passes k e = let x = verify-first t T hr pr 1 refl .0 e .0 in omega arith
 
   pub token-refused : 16384 < length t → verifyAnswer t T hr pr ≡ 1
   token-refused k = verify-first t T hr pr 1 refl .1 (k, tt)
 
-  -- "Header 1,024 bytes, 1,366 characters: rule 5 passes it; 1,025: 5."
+  -- "headers of 1,024 bytes, which are 1,366 characters, and of 1,025"
   pub header-passes : length (headerOf t) ≤ 1024 → verifyAnswer t T hr pr ≡ 5 → ⊥
   header-passes k e = let x = verify-first t T hr pr 5 refl .0 e .0 in omega arith
 
   pub header-refused : NoneOf (earlier (verifying t T hr pr) 5) → 1024 < length (headerOf t) → verifyAnswer t T hr pr ≡ 5
   header-refused n k = verify-first t T hr pr 5 refl .1 (k, n)
 
-  -- "Answer 6 means that a buffer is shorter than what it must hold": where neither is, `verify-room` of Promises.
+  -- "a buffer can't hold what belongs in it": where both can, `verify-room` of Promises.
   pub header-room-refused : NoneOf (earlier (verifying t T hr pr) 6) → hr < length (headerOf t) → verifyAnswer t T hr pr ≡ 6
   header-room-refused n k = verify-first t T hr pr 6 refl .1 (inl k, n)
 
   pub payload-room-refused : NoneOf (earlier (verifying t T hr pr) 6) → pr < length (payloadOf t) → verifyAnswer t T hr pr ≡ 6
   payload-room-refused n k = verify-first t T hr pr 6 refl .1 (inr k, n)
 
-  -- "The decoded signature is exactly the 32 MAC bytes, else 15."
+  -- "The signature segment decodes to these 32 bytes and to nothing more or less."
   pub signature-refused : NoneOf (earlier (verifying t T hr pr) 15) → (length (signatureOf t) ≡ 32 → ⊥) → verifyAnswer t T hr pr ≡ 15
   signature-refused n k =
       let known = none-right (earlier (verifying t T hr pr) 7) (heading (headerOf t) (keys T)) n in
@@ -65,7 +65,7 @@ module _ (h p T : List ℕ) (room : ℕ) where
   pub sign-header-refused : Wellformed T → 1024 < length h → signAnswer h p T room ≡ 5
   sign-header-refused table k = sign-first h p T room 5 refl .1 (k, (λ n. n table) also tt)
 
-  -- "then 1 (finished length), then 6"; where the token fits its buffer: `sign-room` of Promises
+  -- "1 (of the token that would come out), 6"; where the token fits its buffer: `sign-room` of Promises
   pub sign-length-passes : finishedLength h p ≤ 16384 → signAnswer h p T room ≡ 1 → ⊥
   sign-length-passes k e = let x = sign-first h p T room 1 refl .0 e .0 in omega arith
 
@@ -77,7 +77,7 @@ module _ (h p T : List ℕ) (room : ℕ) where
 
 -- THE SHORTEST TOKENS
 module _ (T : List ℕ) (table : Wellformed T) where
-  -- "With a valid table, empty token: 3; `..`: 7."
+  -- "no token at all (3) and `..` (7) with a good table"
   pub empty-token : (hr pr : ℕ) → verifyAnswer [] T hr pr ≡ 3
   unfolding periods
   empty-token hr pr = verify-first [] T hr pr 3 refl .1 ((λ e. omega arith), (λ k. omega arith) also (λ n. n table) also tt)

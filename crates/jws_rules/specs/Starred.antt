@@ -1,4 +1,4 @@
--- The specification's starred rows ("On both sides of the line"), in its order, as rows of one claim about the definitions.
+-- The specification's starred rows ("Both sides of a limit"), in its order, as rows of one claim about the definitions.
 use mathlib.Core.Path.{_≡_, refl}
 use mathlib.Core.Bool.{true, false}
 use mathlib.Core.List.{List, []}

@@ -9,7 +9,7 @@ use Rattle.keytable_rules.specs.Table.{keys}
 use Rattle.jose_rules.specs.Header.{HeaderChoice}
 use Rattle.jws_rules.specs.Segments.{front, back, _dot_}
 
--- 1: "token longer than 16,384 bytes"
+-- 1: "the token has more than 16,384 bytes"
 abbrev pub tokenMost : ℕ
 tokenMost = 16384
 
@@ -25,11 +25,11 @@ macOf secret h p = HMACSHA256 secret (signingInput h p)
 abbrev pub tokenOf : List ℕ → List ℕ → List ℕ → List ℕ
 tokenOf secret h p = encode h dot encode p dot encode (macOf secret h p)
 
--- "1 (finished length)": the two segments, that of the MAC's 32 bytes, two periods. It is the token's length: `length-token` of TokenLaws
+-- "1 (of the token that would come out)": the two segments, that of the MAC's 32 bytes, two periods. It is the token's length: `length-token` of TokenLaws
 abbrev pub finishedLength : List ℕ → List ℕ → ℕ
 finishedLength h p = length (encode h) + length (encode p) + encodedLength 32 + 2
 
--- "Three segments between two periods, in the order header, payload, signature."
+-- "`header.payload.signature`: three segments, each base64url, with a period after the first and after the second."
 abbrev pub headerOf : List ℕ → List ℕ
 headerOf t = decode (front t)
 
@@ -39,7 +39,7 @@ payloadOf t = decode (front (back t))
 abbrev pub signatureOf : List ℕ → List ℕ
 signatureOf t = decode (back (back t))
 
--- "The MAC covers the token's own bytes before the second period.": the JWS Signing Input as it was sent
+-- "the bytes of the token up to the second period, that period left out; as they were sent": the JWS Signing Input
 abbrev pub sentInput : List ℕ → List ℕ
 sentInput t = front t dot front (back t)
 

@@ -19,11 +19,11 @@ pub record Key : Type 0 where
 abbrev pub bit : ℕ → ℕ → Bool
 bit x b = eqb (x / 2 ^ b % 2) 1
 
--- "bit 0 = HS256"
+-- algorithms: "1 allows HS256, 0 allows none"
 unfoldable pub allowsHS256 : Key → Bool
 allowsHS256 k = bit (k .algorithms) 0
 
--- "bit f-1 = format f", f from 1 to 8
+-- formats: "bit 0 allows format 1, and so on up to bit 7 for format 8"
 unfoldable pub allowsFormat : Key → ℕ → Bool
 allowsFormat k f = bit (k .formats) (f - 1)
 
@@ -34,7 +34,7 @@ noKey = record { id = []; secret = []; algorithms = 0; formats = 0 }
 abbrev pub key : List Key → ℕ → Key
 key ks i = getD ks i noKey
 
--- "Two ids are never equal byte for byte."
+-- "No two ids are the same bytes."
 abbrev pub Distinct : List Key → Type 0
 Distinct ks = (i j : ℕ) → i < j → j < length ks → key ks i .id ≡ key ks j .id → ⊥
 
@@ -57,6 +57,6 @@ unfoldable pub find : List ℕ → List Key → Found
 find id [] = Nothing
 find id (k ∷ ks) = cond (same (k .id) id) (At 0) (oneOn (find id ks))
 
--- "the only key of a one-key table"
+-- "the key of a table that has just one, and of another table none"
 unfoldable pub only : List Key → Found
 only ks = cond (eqb (length ks) 1) (At 0) Nothing

@@ -1,5 +1,5 @@
 -- The key table, edition 1: when its bytes are in order, and the list of keys that they mean. Nothing else in the library looks at offsets.
--- Words in quotation marks are those of the specification, "The key table". All numbers are big-endian.
+-- Words in quotation marks are those of the specification, "Key table". "Each number is unsigned, its high byte first."
 use mathlib.Core.Path.{_≡_}
 use mathlib.Core.Bool.{Bool, true, not, _&&_}
 use mathlib.Core.List.{List, [], _∷_}
@@ -46,7 +46,7 @@ algorithmsEnd = 2
 
 -- WHERE THINGS STAND
 
--- "bytes 0-1 edition (1), bytes 2-3 count n (0 to 32), bytes 4-7 total length"
+-- bytes 0, 1: "edition"; 2, 3: "n, how many keys"; 4 to 7: "length of the table"
 abbrev pub editionOf : List ℕ → ℕ
 editionOf T = number2 T 0
 
@@ -56,7 +56,7 @@ countOf T = number2 T 2
 abbrev pub totalOf : List ℕ → ℕ
 totalOf T = number4 T 4
 
--- "then n entries of 12 bytes": where entry i begins, and for i = n where the entries end
+-- "from 8 on": "n entries of 12 bytes". Where entry i begins, and for i = n where the entries end
 abbrev pub entryAt : ℕ → ℕ
 entryAt i = headSize + entrySize * i
 
@@ -71,7 +71,7 @@ areaAt T at = record { offset = number2 T at; size = number2 T (at + 2) }
 abbrev pub part : List ℕ → Area → List ℕ
 part T a = take (a .size) (drop (a .offset) T)
 
--- "id offset, id length, secret offset, secret length (two bytes each), algorithms (one byte, ..), formats (one byte, ..), two zero bytes"
+-- bytes of an entry: 0, 1 and 2, 3 "where the id begins, and its length"; 4, 5 and 6, 7 "where the secret begins, and its length"; 8 "algorithms"; 9 "formats"; 10, 11 "zero"
 abbrev pub idArea : List ℕ → ℕ → Area
 idArea T i = areaAt T (entryAt i)
 
@@ -92,7 +92,7 @@ idOf T i = part T (idArea T i)
 
 -- A TABLE IN ORDER
 
--- "an id has 1 to 64 bytes, a secret 32 to 128; both areas begin at 8+12n or later and end within the total"
+-- lengths "1 to 64" of an id, "32 to 128" of a secret; "Each id and each secret begins behind the entries and ends within the table."
 pub record Placed (T : List ℕ) (least most : ℕ) (a : Area) : Type 0 where
   pub long : least ≤ a .size
   pub short : a .size ≤ most
@@ -112,7 +112,7 @@ GoodEntries T n = (i : ℕ) → i < n → GoodEntry T i
 abbrev pub NewId : List ℕ → ℕ → Type 0
 NewId T j = (i : ℕ) → i < j → idOf T i ≡ idOf T j → ⊥
 
--- "Anything else is a bad table." (The areas lie behind the entries and within the table, so the entries lie within it too: `room` of TableLaws)
+-- "A table that differs from this in anything is bad." (The areas lie behind the entries and within the table, so the entries lie within it too: `room` of TableLaws)
 pub record Wellformed (T : List ℕ) : Type 0 where
   pub long : tableLeast ≤ length T
   pub short : length T ≤ tableMost
