@@ -1,4 +1,5 @@
 -- `copy_at` meets its contract. The loop's invariant: the bytes passed are copied. Assumes nothing.
+use borrow.Author.Needs.{needs}
 use mathlib.Core.Path.{_≡_, refl, ap, sym, _∙_}
 use mathlib.Core.List.{List}
 use Prim.Native.Nat.{ℕ, _≤_, _-_, _+_}
@@ -29,9 +30,6 @@ loop-again c =
           ∙ ap (paste (a .dst .now) (a .at) (a .src .now)) (sym (add-one (l .i))),
     )
 
-same-length : tie.Need-same-length Inv-loop μ-loop
-same-length c = c .before .loop .inv .1
-
 returns : tie.Need-returns Inv-loop μ-loop
 returns c =
     let l = c .before .loop in
@@ -48,5 +46,5 @@ copy-at-spec =
     loop-holds
     (λ c. omega arith) (λ c. omega arith) (λ c. omega arith) (λ c. omega arith) (λ c. omega arith)
     loop-again
-    same-length
+    (λ c. search needs)
     returns)

@@ -1,5 +1,6 @@
 -- `zero` meets its contract. The loop's invariant: the bytes passed are 0. Assumes nothing.
-use mathlib.Core.Path.{_≡_, refl, ap, sym, _∙_}
+use borrow.Author.Needs.{needs}
+use mathlib.Core.Path.{_≡_, ap, sym, _∙_}
 use mathlib.Core.List.{List, [], _∷_, _++_}
 use Prim.Native.Nat.{ℕ, _≤_, _-_, _+_}
 use native.Mathlib.Numerals.{add-one}
@@ -15,9 +16,6 @@ Inv-loop b₀ at₀ b at = (at ≤ length b₀) × (length b ≡ length b₀) ×
 abbrev μ-loop : tie.MeasureT-loop
 μ-loop b₀ at₀ b at = length b₀ - at
 
-loop-holds : tie.Need-loop-holds Inv-loop μ-loop
-loop-holds c = (omega arith, refl, refl)
-
 loop-again : tie.Need-loop-again Inv-loop μ-loop
 loop-again c =
     let l = c .before .loop in (
@@ -29,9 +27,6 @@ loop-again c =
           ∙ replicate-append-replicate (l .at) 1 0,
     )
 
-same-length : tie.Need-same-length Inv-loop μ-loop
-same-length c = c .before .loop .inv .1
-
 returns : tie.Need-returns Inv-loop μ-loop
 returns c =
     let l = c .before .loop in
@@ -39,4 +34,4 @@ returns c =
     sym (take-all (l .at) (l .b) (omega arith)) ∙ l .inv .2 ∙ ap (λ (n : ℕ). replicate n 0) (e ∙ l .inv .1)
 
 pub zero-spec : {M : Type 1} → statement M
-zero-spec = tie.close (tie.spec Inv-loop μ-loop loop-holds (λ c. omega arith) (λ c. omega arith) (λ c. omega arith) loop-again same-length returns)
+zero-spec = tie.close (tie.spec Inv-loop μ-loop (λ c. search needs) (λ c. omega arith) (λ c. omega arith) (λ c. omega arith) loop-again (λ c. search needs) returns)

@@ -27,9 +27,6 @@ number c = sym (ap valueOf (c .before .number .given .1)) ∙ c .before .before 
 returns : tie.Need-returns
 returns c = decision-header _ _ (c .before .check-text .ensures) (c .if1 .taken)
 
-known-members-requires : tie.Need-known-members-requires
-known-members-requires c κs = fine c
-
 format-of-requires : tie.Need-format-of-requires
 format-of-requires c κs = c .known-members .ensures .stands theFmt
 
@@ -66,7 +63,7 @@ decide-with-spec =
     (tie.spec
     (λ c κs. search needs)
     returns
-    known-members-requires
+    (λ c κs. search needs)
     format-of-requires
     (λ c. search needs) (λ c. search needs)
     returns-2

@@ -1,9 +1,10 @@
 -- `find`: no key before i has the id.
+use borrow.Author.Needs.{needs}
 use mathlib.Core.Path.{_≡_, sym, _∙_}
 use Prim.Native.Nat.{ℕ, _-_, _≤_, _<_}
 use native.Mathlib.Omega.{arith}
 use lib.ListN.{length}
-use borrow.Author.Count.{below-none, below-more}
+use borrow.Author.Count.{below-more}
 use Rattle.keytable_rules.specs.Table.{keys}
 use Rattle.keytable_rules.specs.KeyLaws.{finds, finds-one}
 use Rattle.keytable_rules.specs.Key.{key, first, none}
@@ -16,15 +17,6 @@ Inv-loop table wanted n i₀ i = (i ≤ n) × ((k : ℕ) → k < i → key (keys
 
 abbrev μ-loop : tie.MeasureT-loop
 μ-loop table wanted n i₀ i = n - i
-
-count-requires : tie.Need-count-requires Inv-loop μ-loop
-count-requires c κs = c .before .before .pre
-
-loop-holds : tie.Need-loop-holds Inv-loop μ-loop
-loop-holds c = (omega arith, below-none _, c .count .ensures)
-
-id-requires : tie.Need-id-requires Inv-loop μ-loop
-id-requires c κs = (c .before .before .before .before .before .pre, omega arith)
 
 returns : tie.Need-returns Inv-loop μ-loop
 returns c =
@@ -45,10 +37,7 @@ find-spec =
     (tie.spec
     Inv-loop
     μ-loop
-    count-requires
-    loop-holds
-    id-requires
-    (λ c κs. tt)
+    (λ c κs. search needs) (λ c. search needs) (λ c κs. search needs) (λ c κs. tt)
     returns
     (λ c. omega arith) (λ c. omega arith)
     loop-again

@@ -1,8 +1,9 @@
 -- `sha2::absorb` meets its contract.
+use borrow.Author.Needs.{needs}
 use mathlib.Core.Path.{_≡_, refl}
 use Prim.Native.Nat.{_-_, _/_, _%_, _≤_}
 use native.Mathlib.Omega.{arith}
-use lib.ListN.{length, length-take, length-drop}
+use lib.ListN.{length}
 use Rattle.sha2_compression.specs.Parameters.{sha-256}
 use Rattle.sha2.specs.Hash.{hashValue}
 use Rattle.sha2.proofs.ValueLaws.{one-block}
@@ -18,9 +19,6 @@ abbrev μ-loop : tie.MeasureT-loop
 loop-holds : tie.Need-loop-holds Inv-loop μ-loop
 unfolding hashValue
 loop-holds c = (omega arith, refl, refl)
-
-compress-requires : tie.Need-compress-requires Inv-loop μ-loop
-compress-requires c κs = (c .before .before .before .before .pre, simp (length-take, length-drop) (omega arith))
 
 loop-again : tie.Need-loop-again Inv-loop μ-loop
 loop-again c =
@@ -43,7 +41,6 @@ absorb-spec =
     μ-loop
     loop-holds
     (λ c. omega arith) (λ c. omega arith) (λ c. omega arith) (λ c. omega arith) (λ c. omega arith)
-    compress-requires
-    (λ c. omega arith)
+    (λ c κs. search needs) (λ c. omega arith)
     loop-again
     returns)

@@ -1,4 +1,5 @@
 -- `first_outside` meets its contract: up to i, every character is of the alphabet.
+use borrow.Author.Needs.{needs}
 use Prim.Native.Nat.{_≤_, _-_}
 use native.Mathlib.Omega.{arith}
 use lib.ListN.{length}
@@ -11,12 +12,6 @@ Inv-loop table text i₀ i = (i ≤ length text) × Passed text i
 
 abbrev μ-loop : tie.MeasureT-loop
 μ-loop table text i₀ i = length text - i
-
-loop-holds : tie.Need-loop-holds Inv-loop μ-loop
-loop-holds c = (omega arith, omega arith)
-
-value-of-requires : tie.Need-value-of-requires Inv-loop μ-loop
-value-of-requires c κs = c .before .before .before .before .pre
 
 returns : tie.Need-returns Inv-loop μ-loop
 returns c = let l = c .before .before .before .before .loop in stopped _ (l .i) (l .inv .1) (omega arith) (omega arith)
@@ -33,9 +28,7 @@ first-outside-spec =
     (tie.spec
     Inv-loop
     μ-loop
-    loop-holds
-    (λ c. omega arith)
-    value-of-requires
+    (λ c. search needs) (λ c. omega arith) (λ c κs. search needs)
     returns
     (λ c. omega arith) (λ c. omega arith)
     loop-again

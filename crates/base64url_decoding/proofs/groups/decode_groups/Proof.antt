@@ -1,4 +1,5 @@
 -- `decode_groups` meets its contract: up to i, the groups are strict and their bytes are written.
+use borrow.Author.Needs.{needs}
 use mathlib.Core.Path.{_≡_, refl}
 use mathlib.Core.Bool.{true}
 use Prim.Native.Nat.{_+_, _≤_, _-_, _*_}
@@ -20,12 +21,6 @@ abbrev μ-loop : tie.MeasureT-loop
 loop-holds : tie.Need-loop-holds Inv-loop μ-loop
 loop-holds c = (omega arith, refl, nothing _)
 
-decode-group-requires : tie.Need-decode-group-requires Inv-loop μ-loop
-decode-group-requires c κs = c .before .before .before .before .before .before .before .before .before .pre .0
-
-same-length : tie.Need-same-length Inv-loop μ-loop
-same-length c = c .before .before .before .before .before .before .before .before .before .loop .inv .1
-
 returns : tie.Need-returns Inv-loop μ-loop
 returns c =
     let l = c .before .before .before .before .before .before .before .before .before .loop in
@@ -45,9 +40,6 @@ loop-again c =
       one-more _ _ (l .out) (l .i) (l .i * 4 + 4 - l .i * 4) (omega arith) (omega arith) (l .inv .2) (omega arith) (not-false _ (c .if1 .left)) (c .before .before .decode-group .ensures),
     )
 
-same-length-2 : tie.Need-same-length-2 Inv-loop μ-loop
-same-length-2 c = c .before .loop .inv .1
-
 returns-2 : tie.Need-returns-2 Inv-loop μ-loop
 returns-2 c =
     let l = c .before .loop in
@@ -62,9 +54,7 @@ decode-groups-spec =
     μ-loop
     loop-holds
     (λ c. omega arith) (λ c. omega arith) (λ c. omega arith) (λ c. omega arith) (λ c. omega arith) (λ c. omega arith)
-    (λ c. omega arith) (λ c. omega arith) (λ c. omega arith)
-    decode-group-requires
-    same-length
+    (λ c. omega arith) (λ c. omega arith) (λ c. omega arith) (λ c κs. search needs) (λ c. search needs)
     returns
     (λ c. omega arith) (λ c. omega arith) (λ c. omega arith)
     slice-write-out-2
@@ -72,5 +62,5 @@ decode-groups-spec =
     slice-write-out-3
     (λ c. omega arith) (λ c. omega arith)
     loop-again
-    same-length-2
+    (λ c. search needs)
     returns-2)

@@ -1,4 +1,5 @@
 -- `encode_groups` meets its contract: up to i, the text of the groups is written.
+use borrow.Author.Needs.{needs}
 use mathlib.Core.Path.{_≡_, refl, _∙_}
 use Prim.Native.Nat.{_+_, _≤_, _-_, _*_}
 use native.Mathlib.Omega.{arith}
@@ -22,9 +23,6 @@ loop-holds : tie.Need-loop-holds Inv-loop μ-loop
 unfolding encode
 loop-holds c = (omega arith, refl, refl)
 
-encode-group-requires : tie.Need-encode-group-requires Inv-loop μ-loop
-encode-group-requires c κs = c .before .before .before .before .before .before .before .before .pre .0
-
 slice-write-out-2 : tie.Need-slice-write-out-2 Inv-loop μ-loop
 slice-write-out-2 c = simp length-set (omega arith)
 
@@ -46,9 +44,6 @@ loop-again c =
           ∙ group-more encode-grouping _ _ (i * 3) (i * 4) (omega arith) (omega arith) (omega arith) (i * 3 + 3 - i * 3) ((i + 1) * 3) (omega arith) (omega arith) (omega arith) (omega arith) (l .inv .2) (g .ensures),
     )
 
-same-length : tie.Need-same-length Inv-loop μ-loop
-same-length c = c .before .loop .inv .1
-
 returns : tie.Need-returns Inv-loop μ-loop
 returns c =
     let l = c .before .loop in
@@ -63,9 +58,8 @@ encode-groups-spec =
     μ-loop
     loop-holds
     (λ c. omega arith) (λ c. omega arith) (λ c. omega arith) (λ c. omega arith) (λ c. omega arith) (λ c. omega arith)
-    (λ c. omega arith) (λ c. omega arith)
-    encode-group-requires
-    (λ c. omega arith) (λ c. omega arith) (λ c. omega arith)
+    (λ c. omega arith) (λ c. omega arith) (λ c κs. search needs) (λ c. omega arith) (λ c. omega arith)
+    (λ c. omega arith)
     slice-write-out-2
     (λ c. omega arith)
     slice-write-out-3
@@ -73,5 +67,5 @@ encode-groups-spec =
     slice-write-out-4
     (λ c. omega arith) (λ c. omega arith)
     loop-again
-    same-length
+    (λ c. search needs)
     returns)

@@ -16,9 +16,6 @@ Inv-loop header from p₀ p = (p < length header) × ((r : Bool) → StringsFrom
 abbrev μ-loop : tie.MeasureT-loop
 μ-loop header from p₀ p = length header - p
 
-loop-holds : tie.Need-loop-holds Inv-loop μ-loop
-loop-holds c = (c .before .pre, λ r w. w)
-
 loop-less : tie.Need-loop-less Inv-loop μ-loop
 loop-less c = let l = item-at _ _ _ (c .before .before .before .before .before .item-at .ensures) .later _ (c .before .next .given .1) in omega arith
 
@@ -39,8 +36,7 @@ strings-from-spec =
     (tie.spec
     Inv-loop
     μ-loop
-    loop-holds
-    (λ c. omega arith) (λ c κs. tt) (λ c κs. search needs) (λ c. search needs)
+    (λ c. search needs) (λ c. omega arith) (λ c κs. tt) (λ c κs. search needs) (λ c. search needs)
     loop-less
     loop-again
     (λ c. search needs)

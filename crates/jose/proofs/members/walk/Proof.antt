@@ -17,12 +17,6 @@ abbrev μ-loop : tie.MeasureT-loop
 loop-holds : tie.Need-loop-holds Inv-loop μ-loop
 loop-holds c = (c .before .before .pre, walk-start (c .none-known .ensures))
 
-entry-at-requires : tie.Need-entry-at-requires Inv-loop μ-loop
-entry-at-requires c κs = c .loop .inv .0
-
-noted-requires : tie.Need-noted-requires Inv-loop μ-loop
-noted-requires c κs = c .before .loop .inv .0
-
 loop-less : tie.Need-loop-less Inv-loop μ-loop
 loop-less c = let l = entry-at _ _ _ (c .before .before .before .before .entry-at .ensures) .later _ (c .before .next .given .1) in omega arith
 
@@ -40,9 +34,7 @@ walk-spec =
     μ-loop
     (λ c κs. search needs)
     loop-holds
-    entry-at-requires
-    noted-requires
-    (λ c. search needs)
+    (λ c κs. search needs) (λ c κs. search needs) (λ c. search needs)
     loop-less
     loop-again
     (λ c. search needs)

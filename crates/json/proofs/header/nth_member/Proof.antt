@@ -16,9 +16,6 @@ Inv-loop s from depth k p₀ left₀ p left = (p < length s) × ((r : Member) �
 abbrev μ-loop : tie.MeasureT-loop
 μ-loop s from depth k p₀ left₀ p left = left
 
-loop-holds : tie.Need-loop-holds Inv-loop μ-loop
-loop-holds c = (omega arith, λ r h. h)
-
 returns : tie.Need-returns Inv-loop μ-loop
 returns c =
     let b = c .before .before .before in
@@ -42,8 +39,7 @@ nth-member-spec =
     (tie.spec
     Inv-loop
     μ-loop
-    loop-holds
-    (λ c κs. omega arith) (λ c κs. search needs)
+    (λ c. search needs) (λ c κs. omega arith) (λ c κs. search needs)
     returns
     (λ c. search needs) (λ c. omega arith) (λ c. omega arith)
     loop-again

@@ -12,16 +12,10 @@ use Rattle.json_characters.proofs.utf8.form.Tie as tie
 tails-requires : tie.Need-tails-requires
 tails-requires c κs = (c .before .before .before .before .pre .0, lit≤ tt, lit≤ tt, lit≤ tt, lead-bits 0xC0 _ _ _ _ (lit< tt) (sym (c .before .before .between .ensures) ∙ c .before .if1 .taken) (c .wide .ensures .0))
 
-tails-requires-4 : tie.Need-tails-requires-4
-tails-requires-4 c κs = (c .before .before .before .before .before .before .before .before .pre .0, lit≤ tt, lit≤ tt, lit≤ tt, lead-bits 0xE0 _ _ _ _ (lit< tt) (sym (c .before .before .between2 .ensures) ∙ c .before .if4 .taken) (c .wide2 .ensures .0))
-
 returns-4 : tie.Need-returns-4
 returns-4 c =
     let e = c .before .before .before in
     form-three _ _ _ _ _ (e .before .if3 .left) (sym (e .between2 .ensures) ∙ c .before .before .if4 .taken) (c .before .wide2 .ensures .0) (c .tails4 .ensures)
-
-tails-requires-7 : tie.Need-tails-requires-7
-tails-requires-7 c κs = (c .before .before .before .before .before .before .before .before .before .before .before .before .pre .0, lit≤ tt, lit≤ tt, lit≤ tt, lead-bits 0xF0 _ _ _ _ (lit< tt) (sym (c .before .before .between3 .ensures) ∙ c .before .if7 .taken) (c .wide3 .ensures .0))
 
 returns-8 : tie.Need-returns-8
 returns-8 c =
@@ -42,13 +36,11 @@ form-spec =
     (λ c κs. search needs) (λ c. three-row _ _ _ 0xA0 0xBF _ _ (ap charLead (c .before .if2 .taken)) (omega arith) (c .tails2 .ensures))
     (λ c κs. search needs) (λ c. three-row _ _ _ 0x80 0x9F _ _ (ap charLead (c .before .if3 .taken)) (omega arith) (c .tails3 .ensures))
     (λ c κs. tt) (λ c. lead-low 0xE0 _ _ _ (lit≤ tt) (sym (c .before .between2 .ensures) ∙ c .if4 .taken))
-    (λ c κs. tt)
-    tails-requires-4
+    (λ c κs. tt) (λ c κs. search needs)
     returns-4
     (λ c κs. search needs) (λ c. four-row _ _ _ 0x90 0xBF _ _ (ap charLead (c .before .if5 .taken)) (omega arith) (c .tails5 .ensures))
     (λ c κs. search needs) (λ c. four-row _ _ _ 0x80 0x8F _ _ (ap charLead (c .before .if6 .taken)) (omega arith) (c .tails6 .ensures))
     (λ c κs. tt) (λ c. lead-low 0xF0 _ _ _ (lit≤ tt) (sym (c .before .between3 .ensures) ∙ c .if7 .taken))
-    (λ c κs. tt)
-    tails-requires-7
+    (λ c κs. tt) (λ c κs. search needs)
     (λ c. form-four _ _ _ _ _ (sym (c .before .before .before .between3 .ensures) ∙ c .before .before .if7 .taken) (c .before .wide3 .ensures .0) (c .tails7 .ensures))
     returns-8)

@@ -24,9 +24,6 @@ Inv-pairs s names fingerprints t from depth p₀ p = (p < length t) × ((r : Boo
 abbrev μ-pairs : tie.MeasureT-pairs
 μ-pairs s names fingerprints t from depth p₀ p = length t - p
 
-pairs-holds : tie.Need-pairs-holds Inv-loop μ-loop Inv-pairs μ-pairs
-pairs-holds c = (omega arith, λ r h. h)
-
 loop-holds : tie.Need-loop-holds Inv-loop μ-loop Inv-pairs μ-pairs
 loop-holds c = (omega arith, law.without-start _)
 
@@ -68,8 +65,7 @@ block-meets-spec =
     μ-loop
     Inv-pairs
     μ-pairs
-    pairs-holds
-    (λ c. omega arith) (λ c κs. tt)
+    (λ c. search needs) (λ c. omega arith) (λ c κs. tt)
     loop-holds
     (λ c. omega arith) (λ c. search needs) (λ c. omega arith) (λ c. search needs) (λ c. omega arith)
     same-by-fingerprint-requires

@@ -37,9 +37,6 @@ returns c = let b = c .before .before .before .before in law.filling-met _ (law.
 returns-2 : tie.Need-returns-2 Inv-loop μ-loop Inv-pairs μ-pairs
 returns-2 c = let b = c .before .before .before .before in law.filling-past _ (law.full (b .if1 .taken) (b .before .pairs .inv .4)) (c .before .block-meets .ensures) (c .if2 .left) (omega arith)
 
-add-fingerprint : tie.Need-add-fingerprint Inv-loop μ-loop Inv-pairs μ-pairs
-add-fingerprint c = omega (arith, c .before .pairs .inv .4 .high)
-
 loop-holds : tie.Need-loop-holds Inv-loop μ-loop Inv-pairs μ-pairs
 loop-holds c = (omega arith, law.without-start _)
 
@@ -83,8 +80,7 @@ block-twice-spec =
     block-meets-requires
     returns
     returns-2
-    add-fingerprint
-    (λ c κs. tt)
+    (λ c. search needs) (λ c κs. tt)
     loop-holds
     (λ c. omega arith) (λ c. search needs) (λ c. omega arith) (λ c. search needs) (λ c. omega arith)
     same-by-fingerprint-requires

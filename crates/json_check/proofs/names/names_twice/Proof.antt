@@ -17,9 +17,6 @@ Inv-loop s from depth p₀ p = (p < length s) × ((r : Bool) → NamesTwice s p 
 abbrev μ-loop : tie.MeasureT-loop
 μ-loop s from depth p₀ p = length s - p
 
-loop-holds : tie.Need-loop-holds Inv-loop μ-loop
-loop-holds c = (omega arith, λ r h. h)
-
 returns : tie.Need-returns Inv-loop μ-loop
 returns c = let b = c .before .before in b .before .loop .inv .1 _ (law.names-twice _ (law.searched _ (b .block-twice .ensures) (c .enum-told .given .1)))
 
@@ -48,8 +45,7 @@ names-twice-spec =
     (tie.spec
     Inv-loop
     μ-loop
-    loop-holds
-    (λ c κs. omega arith) (λ c. search needs)
+    (λ c. search needs) (λ c κs. omega arith) (λ c. search needs)
     returns
     (λ c. search needs) (λ c. search needs)
     loop-less

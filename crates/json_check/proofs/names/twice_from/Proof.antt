@@ -16,9 +16,6 @@ Inv-loop s from depth at₀ at = (from ≤ at) × (at ≤ length s) × ((r : Boo
 abbrev μ-loop : tie.MeasureT-loop
 μ-loop s from depth at₀ at = length s - at
 
-loop-holds : tie.Need-loop-holds Inv-loop μ-loop
-loop-holds c = (omega arith, omega arith, λ r h. h)
-
 loop-less : tie.Need-loop-less Inv-loop μ-loop
 loop-less c =
     let b = c .before .before .before in
@@ -65,8 +62,7 @@ twice-from-spec =
     (tie.spec
     Inv-loop
     μ-loop
-    loop-holds
-    (λ c. omega arith) (λ c. omega arith) (λ c κs. tt) (λ c. search needs)
+    (λ c. search needs) (λ c. omega arith) (λ c. omega arith) (λ c κs. tt) (λ c. search needs)
     loop-less
     loop-again
     (λ c. search needs)

@@ -2,7 +2,7 @@
 use native.Mathlib.Omega.{arith}
 use Prim.Native.Nat.{_≤_, _-_}
 use lib.ListN.{length, drop}
-use mathlib.Core.Path.{_≡_, refl, _∙_}
+use mathlib.Core.Path.{_≡_, _∙_}
 use borrow.Author.Needs.{needs}
 use Rattle.json_string.specs.Strings.{textIs}
 use Rattle.json_characters.specs.CharacterLaws.{scanned, char-after, char-most}
@@ -16,9 +16,6 @@ Inv-loop s p word i₀ k₀ i k = (k ≤ length word) × (textIs s i (drop k wor
 
 abbrev μ-loop : tie.MeasureT-loop
 μ-loop s p word i₀ k₀ i k = length s - i
-
-loop-holds : tie.Need-loop-holds Inv-loop μ-loop
-loop-holds c = (omega arith, refl)
 
 returns : tie.Need-returns Inv-loop μ-loop
 returns c =
@@ -62,8 +59,7 @@ text-is-spec =
     (tie.spec
     Inv-loop
     μ-loop
-    loop-holds
-    (λ c. omega arith)
+    (λ c. search needs) (λ c. omega arith)
     returns
     (λ c κs. tt) (λ c. search needs) (λ c. search needs)
     returns-2

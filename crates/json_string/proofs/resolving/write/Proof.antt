@@ -42,11 +42,6 @@ returns-2 c =
 octets-of-requires : tie.Need-octets-of-requires Inv-loop μ-loop
 octets-of-requires c κs = char-most _ _ _ _ (scanned _ _ _ _ (c .before .before .before .char-at .ensures) (c .before .c .given .1))
 
-sub-if2 : tie.Need-sub-if2 Inv-loop μ-loop
-sub-if2 c =
-    let e = c .before .before .before .before .before .before .before .before .before in
-    omega (arith, e .loop .inv .2, e .loop .inv .3)
-
 returns-3 : tie.Need-returns-3 Inv-loop μ-loop
 returns-3 c =
     let e = c .before .before .before .before in
@@ -69,11 +64,6 @@ copy-at-requires : tie.Need-copy-at-requires Inv-loop μ-loop
 copy-at-requires c κs =
     let e = c .before .before .before .before in
     omega (arith, octets-in (e .octets-of .ensures) .long, ap length (octets-in (e .octets-of .ensures) .are))
-
-add-n : tie.Need-add-n Inv-loop μ-loop
-add-n c =
-    let e = c .before .before .before .before .before .before .before .before .before .before .before .before .before .before .before in
-    omega (arith, e .loop .inv .2, e .loop .inv .3, e .before .before .before .good)
 
 loop-less : tie.Need-loop-less Inv-loop μ-loop
 loop-less c =
@@ -115,13 +105,12 @@ write-spec =
     (λ c κs. tt) (λ c. search needs) (λ c. search needs) (λ c. search needs)
     returns-2
     octets-of-requires
-    sub-if2
-    (λ c. search needs)
+    (λ c. search needs) (λ c. search needs)
     returns-3
     array-share-prefix-bytes
     slice-aggregate-copy-at
     copy-at-requires
-    add-n
+    (λ c. search needs)
     loop-less
     loop-again
     (λ c. search needs)

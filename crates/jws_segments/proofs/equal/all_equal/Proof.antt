@@ -1,5 +1,6 @@
 -- `all_equal` meets its contract: d is 0 as long as the bytes before i agree, and only so long.
-use mathlib.Core.Path.{_≡_, refl, ap}
+use borrow.Author.Needs.{needs}
+use mathlib.Core.Path.{_≡_, ap}
 use mathlib.Core.Logic.{_↔_}
 use mathlib.Core.List.{List}
 use Prim.Native.Nat.{ℕ, _≤_, _<_, _-_}
@@ -7,7 +8,7 @@ use native.Mathlib.Omega.{arith}
 use lib.Bits.{bitOr, bitXor, or-add-and, and-le-l, and-le-r, xor-add-and, xor-self}
 use lib.ListN.{getD}
 use lib.Seq.{ext-getD}
-use borrow.Author.Count.{below-none, below-more}
+use borrow.Author.Count.{below-more}
 use Rattle.common.specs.Decided.{decided}
 use Rattle.common.specs.First.{decides-eq, decides-iff}
 use Rattle.common.specs.Same.{decides-same}
@@ -31,9 +32,6 @@ Inv-loop a b d₀ i₀ d i = (i ≤ 32) × ((d ≡ 0) ↔ Alike a b i)
 
 abbrev μ-loop : tie.MeasureT-loop
 μ-loop a b d₀ i₀ d i = 32 - i
-
-loop-holds : tie.Need-loop-holds Inv-loop μ-loop
-loop-holds c = (omega arith, (λ e. below-none _, λ h. refl))
 
 loop-again : tie.Need-loop-again Inv-loop μ-loop
 loop-again c =
@@ -59,7 +57,6 @@ all-equal-spec =
     (tie.spec
     Inv-loop
     μ-loop
-    loop-holds
-    (λ c. omega arith) (λ c. omega arith) (λ c. omega arith) (λ c. omega arith)
+    (λ c. search needs) (λ c. omega arith) (λ c. omega arith) (λ c. omega arith) (λ c. omega arith)
     loop-again
     returns)

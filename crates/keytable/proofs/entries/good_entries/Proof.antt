@@ -1,7 +1,8 @@
 -- `good_entries`: the entries before i are good.
+use borrow.Author.Needs.{needs}
 use Prim.Native.Nat.{_-_, _≤_}
 use native.Mathlib.Omega.{arith}
-use borrow.Author.Count.{below-none, below-more}
+use borrow.Author.Count.{below-more}
 use Rattle.common.specs.First.{holds, fails}
 use Rattle.keytable_rules.specs.Table.{GoodEntries}
 use Rattle.common.specs.Decided.{when-true, when-false}
@@ -13,12 +14,6 @@ Inv-loop table n first i₀ i = (i ≤ n) × GoodEntries table i
 
 abbrev μ-loop : tie.MeasureT-loop
 μ-loop table n first i₀ i = n - i
-
-loop-holds : tie.Need-loop-holds Inv-loop μ-loop
-loop-holds c = (omega arith, below-none _)
-
-good-entry-requires : tie.Need-good-entry-requires Inv-loop μ-loop
-good-entry-requires c κs = (omega arith, omega arith, omega arith)
 
 loop-again : tie.Need-loop-again Inv-loop μ-loop
 loop-again c = (omega arith, below-more _ _ (c .before .before .before .loop .inv .1) (when-true (c .before .good-entry .ensures) (c .if1 .taken)))
@@ -35,9 +30,7 @@ good-entries-spec =
     (tie.spec
     Inv-loop
     μ-loop
-    loop-holds
-    good-entry-requires
-    (λ c. omega arith) (λ c. omega arith)
+    (λ c. search needs) (λ c κs. search needs) (λ c. omega arith) (λ c. omega arith)
     loop-again
     returns
     returns-2)

@@ -1,8 +1,9 @@
 -- `new_id`: the ids before i differ from id j.
+use borrow.Author.Needs.{needs}
 use mathlib.Core.Path.{_≡_, sym, _∙_}
 use Prim.Native.Nat.{ℕ, _-_, _≤_, _<_}
 use native.Mathlib.Omega.{arith}
-use borrow.Author.Count.{below-none, below-more}
+use borrow.Author.Count.{below-more}
 use Rattle.common.specs.First.{holds, fails}
 use Rattle.keytable_rules.specs.Table.{idOf}
 use Rattle.common.specs.Decided.{when-true, when-false}
@@ -17,9 +18,6 @@ abbrev μ-loop : tie.MeasureT-loop
 
 id-of-requires : tie.Need-id-of-requires Inv-loop μ-loop
 id-of-requires c κs = (omega arith, c .before .pre .2 _ (c .before .pre .0) .id .ends)
-
-loop-holds : tie.Need-loop-holds Inv-loop μ-loop
-loop-holds c = (omega arith, below-none _, c .id-of .ensures)
 
 id-of-requires-2 : tie.Need-id-of-requires-2 Inv-loop μ-loop
 id-of-requires-2 c κs = (omega arith, c .before .before .before .before .pre .2 (c .before .loop .i) (omega arith) .id .ends)
@@ -44,7 +42,7 @@ new-id-spec =
     Inv-loop
     μ-loop
     id-of-requires
-    loop-holds
+    (λ c. search needs)
     id-of-requires-2
     (λ c κs. tt)
     returns

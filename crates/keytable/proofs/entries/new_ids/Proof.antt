@@ -1,7 +1,8 @@
 -- `new_ids`: the ids before j differ.
+use borrow.Author.Needs.{needs}
 use Prim.Native.Nat.{ℕ, _-_, _≤_, _<_}
 use native.Mathlib.Omega.{arith}
-use borrow.Author.Count.{below-none, below-more}
+use borrow.Author.Count.{below-more}
 use Rattle.common.specs.First.{holds, fails}
 use Rattle.keytable_rules.specs.Table.{NewId}
 use Rattle.common.specs.Decided.{when-true, when-false}
@@ -13,9 +14,6 @@ Inv-loop table n j₀ j = (j ≤ n) × ((k : ℕ) → k < j → NewId table k)
 
 abbrev μ-loop : tie.MeasureT-loop
 μ-loop table n j₀ j = n - j
-
-loop-holds : tie.Need-loop-holds Inv-loop μ-loop
-loop-holds c = (omega arith, below-none _)
 
 new-id-requires : tie.Need-new-id-requires Inv-loop μ-loop
 new-id-requires c κs = (omega arith, omega arith, λ i h. c .before .before .before .pre .2 i (omega arith))
@@ -35,7 +33,7 @@ new-ids-spec =
     (tie.spec
     Inv-loop
     μ-loop
-    loop-holds
+    (λ c. search needs)
     new-id-requires
     (λ c. omega arith) (λ c. omega arith)
     loop-again

@@ -21,12 +21,6 @@ loop-holds : tie.Need-loop-holds Inv-loop μ-loop
 unfolding wordBytes
 loop-holds c = (omega arith, omega arith, refl)
 
-slice-aggregate-copy-at : tie.Need-slice-aggregate-copy-at Inv-loop μ-loop
-slice-aggregate-copy-at c = sym (c .before .before .before .loop .inv .1)
-
-copy-at-requires : tie.Need-copy-at-requires Inv-loop μ-loop
-copy-at-requires c κs = omega (arith, ap length (c .before .before .four-bytes .ensures) ∙ length-bigEndian 4 _)
-
 loop-again : tie.Need-loop-again Inv-loop μ-loop
 loop-again c =
     let l = c .before .before .before .before .before .before .loop in
@@ -50,10 +44,7 @@ digest-spec =
     Inv-loop
     μ-loop
     loop-holds
-    (λ c. omega arith) (λ c. omega arith) (λ c κs. search needs)
-    slice-aggregate-copy-at
-    (λ c. omega arith) (λ c. search needs)
-    copy-at-requires
-    (λ c. omega arith) (λ c. omega arith)
+    (λ c. omega arith) (λ c. omega arith) (λ c κs. search needs) (λ c. search needs) (λ c. omega arith)
+    (λ c. search needs) (λ c κs. search needs) (λ c. omega arith) (λ c. omega arith)
     loop-again
     returns)

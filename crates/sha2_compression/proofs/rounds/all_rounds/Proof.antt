@@ -44,9 +44,6 @@ loop-again c =
       two-more sha-256 (p .args .s) b (p .args .k .now) (l .w) (l .t) (l .t + 16) 64 (p .pre .0) (omega arith) (omega arith) (l .inv .3) (l .inv .4) (two .two-rounds .ensures),
     )
 
-loop2-holds : tie.Need-loop2-holds Inv-loop μ-loop Inv-loop2 μ-loop2
-loop2-holds c = (omega arith, omega arith, λ s e. e)
-
 loop2-again : tie.Need-loop2-again Inv-loop μ-loop Inv-loop2 μ-loop2
 loop2-again c =
     let f = c .before .before .before .before .before in
@@ -82,7 +79,6 @@ all-rounds-spec =
     (λ c. omega arith) (λ c. omega arith) (λ c κs. omega arith) (λ c. omega arith) (λ c. omega arith) (λ c. omega arith)
     (λ c. omega arith) (λ c. omega arith)
     loop-again
-    loop2-holds
-    (λ c κs. omega arith) (λ c. omega arith) (λ c. omega arith)
+    (λ c. search needs) (λ c κs. omega arith) (λ c. omega arith) (λ c. omega arith)
     loop2-again
     returns)
