@@ -55,7 +55,7 @@ pub examples :
     × Gives ("kid" ∶ text "cellar 2" then "crit" ∶ array ("fmt" ∷ []) then "fmt" ∶ number "8" then "alg" ∶ text "HS256" then mnil) (hs1 ∷ hs28 ∷ []) 1 true 8
     -- `jku` chooses nothing
     × Gives ("jku" ∶ text "cellar 2" then "alg" ∶ text "HS256" then mnil) (hs1 ∷ []) 0 false 1
-    -- a known member is missing or has the wrong kind
+    -- `alg` is missing, or a known member is of the wrong kind
     × Answers mnil (hs1 ∷ []) 9
     × Answers ("alg" ∶ trueV then mnil) (hs1 ∷ []) 9
     × Answers ("alg" ∶ text "HS256" then "kid" ∶ number "1" then mnil) (hs1 ∷ []) 9
@@ -77,6 +77,7 @@ pub examples :
     × Answers ("alg" ∶ text "HS256" then "kid" ∶ text "cellar" then mnil) (hs1 ∷ []) 12
     -- the key's HS256 bit is 0
     × Answers ("alg" ∶ text "HS256" then mnil) (none1 ∷ []) 13
+    × Answers ("alg" ∶ text "HS256" then "kid" ∶ text "cellar 3" then mnil) (hs1 ∷ none1 ∷ []) 13
     -- the key's formats lack this format
     × Answers ("alg" ∶ text "HS256" then mnil) (hs28 ∷ []) 14
     × Answers ("alg" ∶ text "HS256" then "crit" ∶ array ("fmt" ∷ []) then "fmt" ∶ number "-0" then mnil) (hs1 ∷ []) 14
@@ -87,6 +88,7 @@ examples = (
   (refl, refl),
   (refl, refl),
   (refl, refl),
+  refl,
   refl,
   refl,
   refl,

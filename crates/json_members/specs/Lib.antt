@@ -3,3 +3,4 @@ pub mod Members
 pub mod MemberLaws
 pub mod Steps
 pub mod StepLaws
+pub mod Examples

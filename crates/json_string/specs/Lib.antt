@@ -4,3 +4,4 @@ pub mod Strings
 pub mod TextLaws
 pub mod StringLaws
 pub mod Steps
+pub mod Examples
