@@ -17,7 +17,7 @@ unfoldable pub memberWords : Member → List ℕ
 memberWords m = foundWords (valuesOf m)
 
 -- the lengths of header and payload, the key's index, 1 if `kid` was there and 0 if not, the format, and start and length of `typ` and of `cty`
-unfoldable pub recordWords : Record → List ℕ
+abbrev pub recordWords : Record → List ℕ
 recordWords r =
     r .header
     ∷ r .payload
