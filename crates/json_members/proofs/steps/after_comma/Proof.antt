@@ -10,7 +10,7 @@ after-comma-spec =
     tie.close
     (tie.spec
     (λ c κs. tt) (λ c. search needs) (λ c. search needs) (λ c κs. tt)
-    (λ c. law.next-found (skips (c .before .before .before .before .before .skip-ws .ensures)) (c .before .before .before .before .if1 .taken) (c .before .before .if2 .taken) (skips (c .before .skip-ws2 .ensures)) (c .if3 .taken))
-    (λ c. law.next-end (skips (c .before .before .before .before .before .skip-ws .ensures)) (c .before .before .before .before .if1 .taken) (c .before .before .if2 .taken) (skips (c .before .skip-ws2 .ensures)) (c .if3 .left))
+    (λ c. let b = c .before .before .before .before in law.next-found (skips (b .before .skip-ws .ensures)) (b .if1 .taken) (c .before .before .if2 .taken) (skips (c .before .skip-ws2 .ensures)) (c .if3 .taken))
+    (λ c. let b = c .before .before .before .before in law.next-end (skips (b .before .skip-ws .ensures)) (b .if1 .taken) (c .before .before .if2 .taken) (skips (c .before .skip-ws2 .ensures)) (c .if3 .left))
     (λ c. law.next-other (skips (c .before .before .before .skip-ws .ensures)) (c .before .before .if1 .taken) (c .if2 .left))
     (λ c. law.next-out (skips (c .before .skip-ws .ensures)) (c .if1 .left)))

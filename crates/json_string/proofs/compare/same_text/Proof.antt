@@ -30,12 +30,14 @@ returns-2 c =
 returns-3 : tie.Need-returns-3 Inv-loop μ-loop
 returns-3 c =
     let e = c .before .before .before in
-    same-none-i _ _ _ _ (text-wrong _ _ (e .before .before .before .before .before .loop-test .taken) (e .before .if2 .left) (scanned _ _ _ _ (c .before .before .char-at .ensures) (c .enum-told .given .1))) ∙ e .before .before .before .before .before .before .loop .inv
+    let t = e .before .before .before .before .before in
+    same-none-i _ _ _ _ (text-wrong _ _ (t .loop-test .taken) (e .before .if2 .left) (scanned _ _ _ _ (c .before .before .char-at .ensures) (c .enum-told .given .1))) ∙ t .before .loop .inv
 
 returns-4 : tie.Need-returns-4 Inv-loop μ-loop
 returns-4 c =
     let e = c .before .before .before .before .before .before .before in
-    same-none-j _ _ _ _ (text-wrong _ _ (e .before .before .before .before .if1 .taken) (e .if3 .left) (scanned _ _ _ _ (c .before .before .char-at2 .ensures) (c .enum-told2 .given .1))) ∙ e .before .before .before .before .before .before .loop .inv
+    let i = e .before .before .before .before in
+    same-none-j _ _ _ _ (text-wrong _ _ (i .if1 .taken) (e .if3 .left) (scanned _ _ _ _ (c .before .before .char-at2 .ensures) (c .enum-told2 .given .1))) ∙ i .before .before .loop .inv
 
 loop-less : tie.Need-loop-less Inv-loop μ-loop
 loop-less c =
@@ -47,16 +49,18 @@ loop-again c =
     let k = c .before .before .before .before in
     let l = k .before .before .before .before in
     let e = l .before in
+    let i = e .before .before .before .before in
     let x = scanned _ _ _ _ (l .char-at .ensures) (k .before .before .x .given .1) in
     let y = scanned _ _ _ _ (k .char-at2 .ensures) (c .before .before .y .given .1) in
-    same-step _ _ _ _ (e .before .before .before .before .before .loop-test .taken) (e .before .before .before .before .if1 .taken) (e .before .if2 .left) (e .if3 .left) _ _ _ _ x y (c .if4 .taken) ∙ e .before .before .before .before .before .before .loop .inv
+    same-step _ _ _ _ (i .before .loop-test .taken) (i .if1 .taken) (e .before .if2 .left) (e .if3 .left) _ _ _ _ x y (c .if4 .taken) ∙ i .before .before .loop .inv
 
 returns-5 : tie.Need-returns-5 Inv-loop μ-loop
 returns-5 c =
     let k = c .before .before .before .before in
     let l = k .before .before .before .before in
     let e = l .before in
-    same-differ _ _ _ _ (e .before .before .before .before .before .loop-test .taken) (e .before .before .before .before .if1 .taken) (e .before .if2 .left) (e .if3 .left) _ _ _ _ (scanned _ _ _ _ (l .char-at .ensures) (k .before .before .x .given .1)) (scanned _ _ _ _ (k .char-at2 .ensures) (c .before .before .y .given .1)) (c .if4 .left) ∙ e .before .before .before .before .before .before .loop .inv
+    let i = e .before .before .before .before in
+    same-differ _ _ _ _ (i .before .loop-test .taken) (i .if1 .taken) (e .before .if2 .left) (e .if3 .left) _ _ _ _ (scanned _ _ _ _ (l .char-at .ensures) (k .before .before .x .given .1)) (scanned _ _ _ _ (k .char-at2 .ensures) (c .before .before .y .given .1)) (c .if4 .left) ∙ i .before .before .loop .inv
 
 returns-6 : tie.Need-returns-6 Inv-loop μ-loop
 returns-6 c = same-none-j _ _ _ _ (text-out _ _ (c .if1 .left)) ∙ c .before .before .loop .inv
