@@ -1,18 +1,15 @@
 -- A strict text, group by group.
 use mathlib.Core.Path.{_≡_, refl, sym, _∙_}
-use mathlib.Core.Bool.{Bool, true, false, _&&_, false≢true}
+use mathlib.Core.Bool.{true, false, false≢true}
 use mathlib.Core.List.{List, [], _∷_}
 use Prim.Native.Nat.{ℕ, _%_, _<_}
 use lib.Dec.{eqb}
 use borrow.Author.Tests.{ltb-true, eqb-true}
+use Rattle.common.specs.Truth.{both}
 use Rattle.base64url_rules.specs.Alphabet.{value, character, inAlphabet}
 use Rattle.base64url_rules.specs.AlphabetLaws.{character-value}
 use Rattle.base64url_rules.specs.Base64url.{alphabetic, unusedBits, strict}
 use Rattle.base64url_rules.specs.GroupLaws.{strict-append, strict-groups}
-
-pub both : (a b : Bool) → a && b ≡ true → (a ≡ true) × (b ≡ true)
-both true b e = (refl, e)
-both false b e = absurd (false≢true e)
 
 -- a character of the alphabet: it has a value, and is that value's character
 pub record Character (c : ℕ) : Type 0 where

@@ -10,11 +10,11 @@ use lib.ListN.{length, getD}
 use borrow.Author.Tests.{ltb-true, ne-eqb}
 use Rattle.common.specs.Bytes.{Bytes, none, more}
 use Rattle.common.specs.Ranges.{within}
+use Rattle.common.specs.Truth.{both}
 use Rattle.base64url_rules.specs.Alphabet.{value, inAlphabet}
 use Rattle.base64url_rules.specs.AlphabetLaws.{character-below}
 use Rattle.base64url_rules.specs.Base64url.{encode, alphabetic, unusedBits, badLength, strict}
 use Rattle.base64url_rules.specs.RoundTrip.{strict-encode}
-use Rattle.base64url_rules.specs.StrictGroups.{both}
 
 pub strict-alphabetic : (s : List ℕ) → strict s ≡ true → alphabetic s ≡ true
 unfolding strict

@@ -1,12 +1,7 @@
 -- What a test says of the condition that it decides.
 use mathlib.Core.Path.{_≡_, refl}
-use mathlib.Core.Bool.{Bool, true, false, not, _&&_, true≢false, false≢true}
-use Rattle.common.specs.First.{Decides, holds, fails, decides-iff, decides-and}
-
--- both tests
-infixl 35 _and_
-pub _and_ : {P Q : Type 0} {a b : Bool} → Decides P a → Decides Q b → Decides (P × Q) (a && b)
-d and e = decides-and d e
+use mathlib.Core.Bool.{Bool, true, false, not, true≢false, false≢true}
+use Rattle.common.specs.First.{Decides, holds, fails, decides-iff}
 
 -- from the test's value to the condition
 pub when-true : {P : Type 0} {b : Bool} → Decides P b → b ≡ true → P

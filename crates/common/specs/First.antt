@@ -6,7 +6,8 @@ use mathlib.Core.List.{List, [], _∷_, _++_}
 use Prim.Native.Nat.{ℕ, _≤_, _<_}
 use native.Mathlib.Omega.{arith}
 use lib.Dec.{ltb, leb, eqb}
-use borrow.Author.Tests.{ltb-true, ltb-false, leb-true, leb-false, eqb-true, eqb-false, eq-eqb}
+use borrow.Author.Tests.{ltb-true, ltb-false, leb-true, leb-false, eqb-true, eqb-false, eq-eqb, not-true}
+use Rattle.common.specs.Truth.{both}
 
 -- `n on P`: the answer n is given on the condition P
 pub data Rule : Type 1 where
@@ -62,18 +63,6 @@ pub data Agree : List Rule → List Test → Type 1 where
   _by_ : {n : ℕ} {P : Type 0} {b : Bool} {rs : List Rule} {ts : List Test} → Decides P b → ((P → ⊥) → Agree rs ts) → Agree ((n on P) ∷ rs) ((n when b) ∷ ts)
 
 infixr 40 _by_
-and-left : (a b : Bool) → a && b ≡ true → a ≡ true
-and-left true b e = refl
-and-left false b e = e
-
-and-right : (a b : Bool) → a && b ≡ true → b ≡ true
-and-right true b e = e
-and-right false b e = absurd (false≢true e)
-
-not-is : (a : Bool) → not a ≡ true → a ≡ false
-not-is true e = absurd (false≢true e)
-not-is false e = refl
-
 or-left : (a b : Bool) → a ≡ true → a || b ≡ true
 or-left true b e = refl
 or-left false b e = absurd (false≢true e)
@@ -101,9 +90,9 @@ pub first-stands : {rs : List Rule} {ts : List Test} → Agree rs ts → distinc
     → (n : ℕ) → among n (numbers rs) ≡ true → (first ts ≡ n) ↔ (condition rs n × NoneOf (earlier rs n))
 first-stands done u n e = absurd (false≢true e)
 first-stands (_by_ {n = m} {P = P} {b = b} {rs = rs} {ts = ts} d a) u n e =
-    let v = and-left (not (eqb m 0) && not (among m (numbers rs))) (distinct (numbers rs)) u in
-    go (eqb m n) refl b d (not-is _ (and-left (not (eqb m 0)) _ v)) (not-is _ (and-right (not (eqb m 0)) _ v))
-    (λ h. first-stands (a h) (and-right (not (eqb m 0) && not (among m (numbers rs))) _ u) n) e
+    let v = both (not (eqb m 0) && not (among m (numbers rs))) (distinct (numbers rs)) u in
+    let w = both (not (eqb m 0)) _ (v .0) in
+    go (eqb m n) refl b d (not-true _ (w .0)) (not-true _ (w .1)) (λ h. first-stands (a h) (v .1) n) e
   where
     go : (q : Bool) → eqb m n ≡ q → (b : Bool) → Decides P b → eqb m 0 ≡ false → among m (numbers rs) ≡ false
         → ((P → ⊥) → among n (numbers rs) ≡ true → (first ts ≡ n) ↔ (condition rs n × NoneOf (earlier rs n)))
@@ -120,8 +109,8 @@ first-stands (_by_ {n = m} {P = P} {b = b} {rs = rs} {ts = ts} d a) u n e =
 pub none-stands : {rs : List Rule} {ts : List Test} → Agree rs ts → distinct (numbers rs) ≡ true → (first ts ≡ 0) ↔ NoneOf rs
 none-stands done u = (λ f. tt, λ h. refl)
 none-stands (_by_ {n = m} {P = P} {b = b} {rs = rs} {ts = ts} d a) u =
-    let v = and-left (not (eqb m 0) && not (among m (numbers rs))) (distinct (numbers rs)) u in
-    go b d (not-is _ (and-left (not (eqb m 0)) _ v)) (λ h. none-stands (a h) (and-right (not (eqb m 0) && not (among m (numbers rs))) _ u))
+    let v = both (not (eqb m 0) && not (among m (numbers rs))) (distinct (numbers rs)) u in
+    go b d (not-true _ (both (not (eqb m 0)) _ (v .0) .0)) (λ h. none-stands (a h) (v .1))
   where
     go : (b : Bool) → Decides P b → eqb m 0 ≡ false → ((P → ⊥) → (first ts ≡ 0) ↔ NoneOf rs) → (first ((m when b) ∷ ts) ≡ 0) ↔ ((P → ⊥) × NoneOf rs)
     go true (holds d) z i = (λ f. absurd (eqb-false m 0 z f), λ h. absurd (h .0 d))
@@ -176,10 +165,11 @@ decides-or (holds d) e = holds (inl d)
 decides-or (fails d) (holds e) = holds (inr e)
 decides-or (fails d) (fails e) = fails (⊎-elim d e)
 
-pub decides-and : {P Q : Type 0} {a b : Bool} → Decides P a → Decides Q b → Decides (P × Q) (a && b)
-decides-and (holds d) (holds e) = holds (d, e)
-decides-and (holds d) (fails e) = fails (λ h. e (h .1))
-decides-and (fails d) e = fails (λ h. d (h .0))
+infixl 35 _and_
+pub _and_ : {P Q : Type 0} {a b : Bool} → Decides P a → Decides Q b → Decides (P × Q) (a && b)
+holds d and holds e = holds (d, e)
+holds d and fails e = fails (λ h. e (h .1))
+fails d and e = fails (λ h. d (h .0))
 
 -- the same condition in other words
 pub decides-iff : {P Q : Type 0} {b : Bool} → (P → Q) → (Q → P) → Decides P b → Decides Q b
@@ -245,7 +235,7 @@ Pass ((n when b) ∷ ts) = (b ≡ false) × Pass ts
 pub all-pass : (ts : List Test) → numbered ts ≡ true → first ts ≡ 0 → Pass ts
 all-pass [] u e = tt
 all-pass ((n when true) ∷ ts) u e = absurd (false≢true (sym (ap (λ (b : Bool). not b && numbered ts) (eq-eqb n 0 e)) ∙ u))
-all-pass ((n when false) ∷ ts) u e = (refl, all-pass ts (and-right (not (eqb n 0)) (numbered ts) u) e)
+all-pass ((n when false) ∷ ts) u e = (refl, all-pass ts (both (not (eqb n 0)) (numbered ts) u .1) e)
 
 pub first-next : (n : ℕ) {b : Bool} (ts : List Test) → b ≡ false → first ((n when b) ∷ ts) ≡ first ts
 first-next n ts e = rw e

@@ -4,6 +4,7 @@ pub mod BigEndian
 pub mod LittleEndian
 pub mod Buffer
 pub mod Laid
+pub mod Truth
 pub mod First
 pub mod Decided
 pub mod Same

@@ -1,6 +1,6 @@
 -- What the code does with digits, one at a time, and with the sign.
 use mathlib.Core.Path.{_≡_, refl, sym, ap, _∙_}
-use mathlib.Core.Bool.{Bool, true, false, cond, _&&_}
+use mathlib.Core.Bool.{Bool, true, false, cond, _&&_, and-true, and-false}
 use mathlib.Core.List.{List, [], _∷_}
 use Prim.Native.Nat.{ℕ, zero, suc, _+_, _*_, _-_, _/_, _≤_, _<_}
 use native.Mathlib.Numerals.{add-one}
@@ -48,14 +48,6 @@ unfolding after
 after-le m [] = omega arith
 after-le m (c ∷ s) = let h = after-le (10 * m + (c - 48)) s in omega arith
 
-and-yes : (b : Bool) → b && true ≡ b
-and-yes true = refl
-and-yes false = refl
-
-and-no : (b : Bool) → b && false ≡ false
-and-no true = refl
-and-no false = refl
-
 -- the character at i is a digit d, ..
 module _ (most m : ℕ) (s : List ℕ) (i : ℕ) (h : i < length s) where
   pub next : {d : ℕ} → d ≡ getD s i 0 - 48 → 48 ≤ getD s i 0 → getD s i 0 ≤ 57 → reach most m (drop i s) ≡ reach most (10 * m + d) (drop (i + 1) s)
@@ -67,7 +59,7 @@ module _ (most m : ℕ) (s : List ℕ) (i : ℕ) (h : i < length s) where
   unfolding reach after allDigits
   over e k =
       let g = after-le (10 * m + (getD s i 0 - 48)) (drop (suc i) s) in
-      rw (drop-cons s i 0 h, lt-leb (after (10 * m + (getD s i 0 - 48)) (drop (suc i) s)) most (omega arith), and-no)
+      rw (drop-cons s i 0 h, lt-leb (after (10 * m + (getD s i 0 - 48)) (drop (suc i) s)) most (omega arith), and-false)
 
   -- .. or is none
   pub below : getD s i 0 < 48 → reach most m (drop i s) ≡ Beyond
@@ -106,7 +98,7 @@ nothing s e = rw (no-length s e)
 
 in-range-minus : (m : ℕ) → inRange (negℤ (pos m)) ≡ leb m 9223372036854775808
 in-range-minus zero = refl
-in-range-minus (suc n) = and-yes (leb n 9223372036854775807) ∙ sym (leb·suc-suc n 9223372036854775807)
+in-range-minus (suc n) = and-true (leb n 9223372036854775807) ∙ sym (leb·suc-suc n 9223372036854775807)
 
 pub with-minus : (s : List ℕ) → (length s ≡ 0 → ⊥) → getD s 0 0 ≡ 45
     → integerOf s ≡ signed true (magnitudeOf 9223372036854775808 (take (length s - 1) (drop 1 s)))

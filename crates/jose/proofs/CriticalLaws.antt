@@ -1,12 +1,13 @@
 -- Rule 10: what `crit` may list, and when the rule is broken.
 use mathlib.Core.Path.{_≡_, refl, sym, ap, _∙_, subst}
-use mathlib.Core.Bool.{Bool, true, false, not, _||_, true≢false}
+use mathlib.Core.Bool.{Bool, true, false, not, _||_, true≢false, or-true, or-false}
 use mathlib.Core.List.{List, [], _∷_}
 use mathlib.Core.Option.{Option, none, some}
 use Prim.Native.Nat.{ℕ, _+_, _-_, _<_}
 use lib.ListN.{length}
 use Rattle.common.specs.First.{Decides, holds}
 use Rattle.common.specs.Same.{same, decides-same}
+use Rattle.common.specs.Truth.{neither}
 use Rattle.json_grammar.specs.Value.{Value, Members, LItems, inil, icons, plainItem, plainItems, among, repeated}
 use Rattle.json_string.specs.declared.End.{End}
 use Rattle.json_string.specs.declared.End.the-variants.{At, Bad}
@@ -23,12 +24,11 @@ use Rattle.jose_rules.specs.Names.{alg, kid, typ, cty, crit, fmt}
 use Rattle.jose_rules.specs.Members.{string, strings, integer, stringsIn}
 use Rattle.jose_rules.specs.Only.{absent, given, bind}
 use Rattle.jose_rules.specs.HeaderTests.{reading}
-use Rattle.jose_rules.specs.Known.{or-false}
 use Rattle.jose_rules.specs.Tests.{lookup, said, wrong, anyOf, empty, listed, missingOrWrong, criticalBroken}
 use Rattle.jose.specs.Slots.{inside, Stands, isThere, isArray, formatAlone}
 use Rattle.jose.proofs.WordLaws.{isAscii, text-word}
 use Rattle.jose.proofs.SlotLaws.{no-member, there-is, array-at, wrong-there}
-use Rattle.jose.proofs.KindLaws.{or-true, or-none, Element, element-of, no-strings-other}
+use Rattle.jose.proofs.KindLaws.{Element, element-of, no-strings-other}
 
 -- WHETHER `crit` LISTS `fmt` AND NOTHING ELSE
 
@@ -108,11 +108,11 @@ module _ {h n : List ℕ} {x : Span} (a : Strings h n x) where
 -- `crit` has the right kind
 sixth : (a b c d e f g : Bool) → a || (b || (c || (d || (e || (f || g))))) ≡ false → f ≡ false
 sixth a b c d e f g h =
-    let p = or-false a (b || (c || (d || (e || (f || g))))) h .1 in
-    let q = or-false b (c || (d || (e || (f || g)))) p .1 in
-    let r = or-false c (d || (e || (f || g))) q .1 in
-    let s = or-false d (e || (f || g)) r .1 in
-    or-false f g (or-false e (f || g) s .1) .0
+    let p = neither a (b || (c || (d || (e || (f || g))))) h .1 in
+    let q = neither b (c || (d || (e || (f || g)))) p .1 in
+    let r = neither c (d || (e || (f || g))) q .1 in
+    let s = neither d (e || (f || g)) r .1 in
+    neither f g (neither e (f || g) s .1) .0
 
 pub crit-fine : (ms : Members) → missingOrWrong ms ≡ false → wrong strings crit ms ≡ false
 unfolding missingOrWrong
@@ -152,7 +152,7 @@ module _ (ms : Members) where
   -- with no `fmt`, `crit` may not be there
   pub broken-absent : wrong strings crit ms ≡ false → lookup fmt ms ≡ none → criticalBroken ms ≡ not (absent (lookup crit ms))
   unfolding criticalBroken
-  broken-absent fine l = rw (l, or-none (given faults (said strings crit ms))) (go (lookup crit ms) refl)
+  broken-absent fine l = rw (l, or-false (given faults (said strings crit ms))) (go (lookup crit ms) refl)
     where
       names : (o : Option (List (List ℕ))) → absent o ≡ false → given faults o ≡ true
       names none e = absurd (true≢false e)

@@ -1,6 +1,6 @@
 -- Rule 9: the elements of `crit`, the format, and the kinds together.
 use mathlib.Core.Path.{_≡_, refl, sym, ap, _∙_, subst}
-use mathlib.Core.Bool.{Bool, true, false, not, _||_, true≢false}
+use mathlib.Core.Bool.{Bool, true, false, not, _||_, true≢false, or-true, or-false, Bool·not-not}
 use mathlib.Core.List.{List, _∷_}
 use mathlib.Core.Option.{Option, none, some}
 use Prim.Native.Nat.{ℕ, _-_}
@@ -101,10 +101,6 @@ module _ {h : List ℕ} {p : ℕ} {i : Item} (it : ItemAt h p (inside - 1) i) wh
 pub first-as : {h : List ℕ} {p : ℕ} {r s : End} → r ≡ firstElement h p → r ≡ s → FirstElement h p s
 first-as {h} {p} f e = first-element h p (sym e ∙ f)
 
-not-not : (b : Bool) → not (not b) ≡ b
-not-not true = refl
-not-not false = refl
-
 module _ {h n : List ℕ} {k : Kind} {x : Span} (w : Stands h n (Is k x)) where
   module _ (e : isArray k ≡ true) where
     wrong-array : wrong strings n (reading h) ≡ absent (stringsIn (plainItems (array-at w e .0)))
@@ -113,7 +109,7 @@ module _ {h n : List ℕ} {k : Kind} {x : Span} (w : Stands h n (Is k x)) where
     pub no-strings-from : {p : ℕ} {t : Bool} → FirstElement h (x .start) (At p) → StringsFrom h p t → not t ≡ wrong strings n (reading h)
     no-strings-from f s =
         let a = array-at w e in
-        ap not (s .is (a .0) (f .is inside (a .0) (a .3))) ∙ not-not (absent (stringsIn (plainItems (a .0)))) ∙ sym wrong-array
+        ap not (s .is (a .0) (f .is inside (a .0) (a .3))) ∙ Bool·not-not (absent (stringsIn (plainItems (a .0)))) ∙ sym wrong-array
 
     pub no-strings-empty : FirstElement h (x .start) Bad → false ≡ wrong strings n (reading h)
     unfolding stringsIn plainItems
@@ -155,14 +151,6 @@ module _ {h : List ℕ} where
 
 -- THE KINDS TOGETHER
 
-pub or-true : (a : Bool) → a || true ≡ true
-or-true true = refl
-or-true false = refl
-
-pub or-none : (a : Bool) → a || false ≡ a
-or-none true = refl
-or-none false = refl
-
 -- a format that isn't an integer
 pub wrong-last : (ms : Members) → none ≡ format ms → missingOrWrong ms ≡ true
 unfolding missingOrWrong
@@ -175,8 +163,8 @@ module _ {h : List ℕ} {m : Known} (l : Located h m) (fine : absent (format (re
   by-slots =
       rw (
         wrong-format (reading h) ∙ fine,
-        or-none (wrong strings crit (reading h)),
-        ap not (there-is (m .alg) (l .stands theAlg)) ∙ not-not (absent (lookup alg (reading h))),
+        or-false (wrong strings crit (reading h)),
+        ap not (there-is (m .alg) (l .stands theAlg)) ∙ Bool·not-not (absent (lookup alg (reading h))),
         no-string-is (m .alg) (l .stands theAlg),
         no-string-is (m .kid) (l .stands theKid),
         no-string-is (m .typ) (l .stands theTyp),

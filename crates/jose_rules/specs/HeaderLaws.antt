@@ -8,6 +8,7 @@ use Rattle.common.specs.Bytes.{Bytes}
 use Rattle.common.specs.First.{Rule, _on_, Test, NoneOf, condition, Decides, holds, fails, Agree, done, _by_, decides-iff, agree-append, _also_, none-left, none-right}
 use Rattle.common.specs.Decided.{when-false}
 use Rattle.common.specs.Same.{same, decides-same}
+use Rattle.common.specs.Truth.{neither}
 use Rattle.json_grammar.specs.Twice.{TwiceNamed}
 use Rattle.json_grammar.specs.Value.{Value, objectV, among, repeated, names, LMembers, named, lnil, lcons, plainItem, plainMembers}
 use Rattle.json_grammar.specs.Places.{placed}
@@ -27,7 +28,7 @@ use Rattle.jose_rules.specs.Names.{typ, cty}
 use Rattle.jose_rules.specs.Members.{Has}
 use Rattle.jose_rules.specs.Rules.{known}
 use Rattle.jose_rules.specs.Tests.{knownTests}
-use Rattle.jose_rules.specs.Known.{known-agree, chooses, chooses-one, or-false, decides-among, unique-names}
+use Rattle.jose_rules.specs.Known.{known-agree, chooses, chooses-one, decides-among, unique-names}
 use Rattle.jose_rules.specs.Header.{ofReading, heading, nameOf, valuePlace, ValueAt, RawText, HeaderChoice, HeaderChooses}
 use Rattle.jose_rules.specs.HeaderTests.{located, reading, headingTests, rawText, headerChoice}
 
@@ -90,7 +91,7 @@ unfolding rawText plainMembers names repeated
 raw-one h n lnil u p (inl v) = absurd v
 raw-one h n lnil u p (inr w) = w .1
 raw-one h n (lcons (named f t m v) ms) u p r =
-    let o = or-false (among m (names (plainMembers ms))) (repeated (names (plainMembers ms))) u in
+    let o = neither (among m (names (plainMembers ms))) (repeated (names (plainMembers ms))) u in
     go (same m n) (decides-same m n) (when-false (decides-among m (plainMembers ms)) (o .0)) (raw-one h n ms (o .1) p) r
   where
     go : (b : Bool) → Decides (m ≡ n) b → ((x : Value) × Has m x (plainMembers ms) → ⊥) → (RawText h n ms p → p ≡ rawText h n ms)

@@ -1,7 +1,7 @@
 -- The tests decide the conditions: the answer is the first of 9 to 14 that holds, and where none does, what is chosen is the only choice.
 use mathlib.Core.Path.{_≡_, refl, sym, ap}
 use mathlib.Core.Logic.{_↔_, _⊎_, inl, inr, ⊎-elim}
-use mathlib.Core.Bool.{Bool, true, false, cond, _||_, true≢false}
+use mathlib.Core.Bool.{Bool, true, false, cond}
 use mathlib.Core.List.{List, [], _∷_}
 use mathlib.Core.Option.{Option, none, some}
 use Prim.Native.Nat.{ℕ}
@@ -20,15 +20,12 @@ use Rattle.keytable_rules.specs.Key.{Key, key, Distinct, Named, find, only, all
 use Rattle.keytable_rules.specs.KeyLaws.{found, not-found, find-is}
 use Rattle.common.specs.Decided.{when-false, decided, decides-false, test-false}
 use Rattle.common.specs.Same.{same, decides-same}
+use Rattle.common.specs.Truth.{neither}
 use Rattle.jose_rules.specs.Names.{alg, kid, typ, cty, crit, fmt, HS256}
 use Rattle.jose_rules.specs.Members.{Has, Lacks, Kind, string, strings, integer, Says, Wrong, Some}
 use Rattle.jose_rules.specs.Rules.{MissingOrWrong, Listed, CriticalBroken, Chosen, Format, Lacking, known, Choice, Chooses}
 use Rattle.jose_rules.specs.Only.{Only, nothing, just, absent, orElse, decides-none, decides-some, decides-absent, decides-there, only-there, only-is, only-content, only-bind, only-or}
 use Rattle.jose_rules.specs.Tests.{lookup, said, wrong, anyOf, empty, listed, missingOrWrong, criticalBroken, indexOf, chosen, format, lacking, knownTests, choice}
-
-pub or-false : (a b : Bool) → a || b ≡ false → (a ≡ false) × (b ≡ false)
-or-false true b e = absurd (true≢false e)
-or-false false b e = (refl, e)
 
 pub decides-among : (n : List ℕ) (ms : Members) → Decides ((v : Value) × Has n v ms) (amongNames n (names ms))
 unfolding amongNames names
@@ -48,7 +45,7 @@ pub looked : (n : List ℕ) (ms : Members) → repeated (names ms) ≡ false →
 unfolding lookup repeated names
 looked n mnil e = nothing (λ v h. h)
 looked n (mcons m w ms) e =
-    let f = or-false (amongNames m (names ms)) (repeated (names ms)) e in
+    let f = neither (amongNames m (names ms)) (repeated (names ms)) e in
     go (same m n) (decides-same m n) (when-false (decides-among m ms) (f .0)) (lookup n ms) (looked n ms (f .1))
   where
     go : (b : Bool) → Decides (m ≡ n) b → ((v : Value) × Has m v ms → ⊥) → (o : Option Value) → Only (λ v. Has n v ms) o

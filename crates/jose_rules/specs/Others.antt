@@ -6,6 +6,7 @@ use mathlib.Core.Option.{Option, none, some}
 use Prim.Native.Nat.{ℕ}
 use Rattle.common.specs.First.{Decides, holds, fails}
 use Rattle.common.specs.Same.{same, decides-same}
+use Rattle.common.specs.Truth.{neither}
 use Rattle.json_grammar.specs.Value.{Members, mnil, mcons, among, repeated}
 use Rattle.keytable_rules.specs.Key.{Key}
 use Rattle.common.specs.Ascii.{ascii}
@@ -13,7 +14,6 @@ use Rattle.jose_rules.specs.Names.{alg, kid, typ, cty, crit, fmt, knownN
 use Rattle.jose_rules.specs.Members.{strings}
 use Rattle.jose_rules.specs.Only.{absent, given}
 use Rattle.jose_rules.specs.Tests.{lookup, said, anyOf, empty, listed, missingOrWrong, criticalBroken, chosen, format, knownTests, choice}
-use Rattle.jose_rules.specs.Known.{or-false}
 
 -- the members whose name isn't n
 unfoldable pub without : List ℕ → Members → Members
@@ -60,12 +60,12 @@ pub unknown-ignored : (n : List ℕ) → among n knownNames ≡ false → (ms : 
     → (knownTests (without n ms) ks ≡ knownTests ms ks) × (choice (without n ms) ks ≡ choice ms ks)
 unfolding among missingOrWrong chosen format choice
 unknown-ignored n new ms ks =
-    let a = or-false _ _ new in
-    let b = or-false _ _ (a .1) in
-    let c = or-false _ _ (b .1) in
-    let d = or-false _ _ (c .1) in
-    let e = or-false _ _ (d .1) in
-    let f = or-false _ _ (e .1) in
+    let a = neither _ _ new in
+    let b = neither _ _ (a .1) in
+    let c = neither _ _ (b .1) in
+    let d = neither _ _ (c .1) in
+    let e = neither _ _ (d .1) in
+    let f = neither _ _ (e .1) in
     let alg-same = lookup-without n alg (a .0) ms in
     let kid-same = lookup-without n kid (b .0) ms in
     let typ-same = lookup-without n typ (c .0) ms in

@@ -11,7 +11,8 @@ use Rattle.json_grammar.specs.Bytes.{within, isDigit, isHex, hexVal, allHex, he
 use Rattle.json_grammar.specs.Grammar.{Utf8, utf8-1, utf8-2, utf8-E0, utf8-E1, utf8-ED, utf8-EE, utf8-F0, utf8-F1, utf8-F4, codeUtf8, Char, unescaped, short, unicode, surrogates, Short, shortCode, codeOf, Chars, cnil, ccons, codesOf}
 use Rattle.json_grammar.specs.Grammar.{quote, reverse-solidus, solidus, backspace, form-feed, line-feed, carriage-return, tab}
 use Rattle.json_grammar.specs.Reader.{Got, bad, got, readChar}
-use Rattle.json_grammar.specs.ByteLaws.{within-true, within-is, and-both, or-none, by-test}
+use Rattle.common.specs.Truth.{both, neither}
+use Rattle.json_grammar.specs.ByteLaws.{within-true, within-is, by-test}
 use Rattle.json_grammar.specs.ReaderLaws.{no-bad}
 use Rattle.json_grammar.specs.CharLaws.{complete-char, char-sound}
 use Rattle.json_characters.specs.Utf8.{tail, octets, utf8, Scalar, low, high, Each, none, more}
@@ -101,15 +102,15 @@ hex-small b h = go (within 0x30 0x39 b) refl h
 hex4-small : (a b c d : ℕ) → allHex a b c d ≡ true → hex4 a b c d ≤ 0xFFFF
 unfolding allHex hex4
 hex4-small a b c d h =
-    let i = and-both (isHex a) (isHex b && (isHex c && isHex d)) h in
-    let j = and-both (isHex b) (isHex c && isHex d) (i .1) in
-    let k = and-both (isHex c) (isHex d) (j .1) in
+    let i = both (isHex a) (isHex b && (isHex c && isHex d)) h in
+    let j = both (isHex b) (isHex c && isHex d) (i .1) in
+    let k = both (isHex c) (isHex d) (j .1) in
     omega (arith, hex-small a (i .0), hex-small b (j .0), hex-small c (k .0), hex-small d (k .1))
 
 scalar-small : (x : ℕ) → x ≤ 0xFFFF → isSurrogate x ≡ false → Scalar x
 unfolding isSurrogate isHigh isLow
 scalar-small x h e =
-    let i = or-none (within 0xD800 0xDBFF x) (within 0xDC00 0xDFFF x) e in
+    let i = neither (within 0xD800 0xDBFF x) (within 0xDC00 0xDFFF x) e in
     go (leb x 0xD7FF) (leb x 0xDBFF) (leb x 0xDFFF) refl refl refl (i .0) (i .1)
   where
     go : (p q r : Bool) → leb x 0xD7FF ≡ p → leb x 0xDBFF ≡ q → leb x 0xDFFF ≡ r → within 0xD800 0xDBFF x ≡ false → within 0xDC00 0xDFFF x ≡ false → Scalar x

@@ -1,22 +1,15 @@
 -- Laws of the classes of bytes: what a test says of a byte, and case by case.
 use mathlib.Core.Path.{_≡_, refl, sym, subst}
-use mathlib.Core.Bool.{Bool, true, false, cond, _&&_, _||_, false≢true}
+use mathlib.Core.Bool.{Bool, true, false, cond, _||_}
 use Prim.Native.Nat.{ℕ, _≤_}
 use native.Mathlib.Omega.{arith}
 use lib.Dec.{leb, eqb}
 use borrow.Author.Tests.{leb-true, eqb-true}
+use Rattle.common.specs.Truth.{both}
 use Rattle.json_grammar.specs.Bytes.{within, isWs, isE, isSign}
 pub use Rattle.common.specs.Ranges.{within-is, from-low, below, above}
 
 -- TESTS
-
-pub and-both : (a b : Bool) → a && b ≡ true → (a ≡ true) × (b ≡ true)
-and-both true b e = (refl, e)
-and-both false b e = absurd (false≢true e)
-
-pub or-none : (a b : Bool) → a || b ≡ false → (a ≡ false) × (b ≡ false)
-or-none false b e = (refl, e)
-or-none true b e = absurd (false≢true (sym e))
 
 pub either : {C : Type 0} (a b : Bool) → a || b ≡ true → (a ≡ true → C) → (b ≡ true → C) → C
 either true b e f g = f refl
@@ -34,7 +27,7 @@ by-byte P b x f g = by-test P (eqb b x) (λ e. f (eqb-true b x e)) (λ _. g)
 
 pub within-true : (lo hi b : ℕ) → within lo hi b ≡ true → (lo ≤ b) × (b ≤ hi)
 unfolding within
-within-true lo hi b h = let k = and-both (leb lo b) (leb b hi) h in (leb-true lo b (k .0), leb-true b hi (k .1))
+within-true lo hi b h = let k = both (leb lo b) (leb b hi) h in (leb-true lo b (k .0), leb-true b hi (k .1))
 
 pub within-high : (lo hi m b : ℕ) → hi ≤ m → within lo hi b ≡ true → b ≤ m
 within-high lo hi m b h e = omega (arith, within-true lo hi b e)

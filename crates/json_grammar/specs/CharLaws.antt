@@ -16,7 +16,8 @@ use Rattle.json_grammar.specs.Reader.{Got, bad, got, then, over, one, ex
 use Rattle.json_grammar.specs.Reader.{readThree, readFour}
 use Rattle.json_grammar.specs.Reader.{hex-by, readHex, low-by, readLow, unicode-by, readUnicode, EscapeLead, escapeLeadOf, escape-by, readEscape}
 use Rattle.json_grammar.specs.Reader.{char-by, readChar, chars-by, chars, readChars}
-use Rattle.json_grammar.specs.ByteLaws.{or-none, either, by-test, by-byte, within-true, within-high, within-is, below, above}
+use Rattle.common.specs.Truth.{neither}
+use Rattle.json_grammar.specs.ByteLaws.{either, by-test, by-byte, within-true, within-high, within-is, below, above}
 use Rattle.json_grammar.specs.ReaderLaws.{no-bad, then-inv, over-inv, one-inv, expect-inv, enough}
 use Rattle.json_grammar.specs.Written.{longer}
 use Rattle.json_grammar.specs.Written
@@ -100,7 +101,7 @@ complete-char (short form-feed) r = refl
 complete-char (short line-feed) r = refl
 complete-char (short carriage-return) r = refl
 complete-char (short tab) r = refl
-complete-char (unicode a b c d h k) r = let i = or-none (isHigh (hex4 a b c d)) (isLow (hex4 a b c d)) k in rw (h, i .0, i .1)
+complete-char (unicode a b c d h k) r = let i = neither (isHigh (hex4 a b c d)) (isLow (hex4 a b c d)) k in rw (h, i .0, i .1)
 complete-char (surrogates a b c d i j e f g h k l) r = rw (i, j, k, l)
 
 -- the first byte of a character is no quotation mark

@@ -14,7 +14,8 @@ use Rattle.json_grammar.specs.Grammar.{yieldSign, yieldExp, yieldNumber}
 use Rattle.json_grammar.specs.Reader.{got, then, past, skip, pastDigits, int-by, pastInt, frac-by, pastFrac, optional-by, optional, exp-by}
 use Rattle.json_grammar.specs.Reader.{pastExp, pastUnsigned, pastNumber, readNumber}
 use Rattle.json_grammar.specs.Reader.{valueLead, numberLead}
-use Rattle.json_grammar.specs.ByteLaws.{or-none, within-true, e-cases}
+use Rattle.common.specs.Truth.{neither}
+use Rattle.json_grammar.specs.ByteLaws.{within-true, e-cases}
 use Rattle.json_grammar.specs.ReaderLaws.{no-bad, then-inv, one-inv, next-not, skip-none, skip-many, skipped}
 use Rattle.json_grammar.specs.Written.{up-to, number}
 
@@ -39,8 +40,8 @@ NoE r = next-not isE r ≡ true
 none-next : (r : List ℕ) → Stops r → NoDigit r × NoPoint r × NoE r
 none-next [] st = (refl, refl, refl)
 none-next (b ∷ r) st =
-    let i = or-none (isDigit b) _ (not-true (continues b) st) in
-    let j = or-none (eqb b 0x2E) (isE b) (i .1) in
+    let i = neither (isDigit b) _ (not-true (continues b) st) in
+    let j = neither (eqb b 0x2E) (isE b) (i .1) in
     (rw (i .0), rw (j .0), rw (j .1))
 
 past-digits : (ds : Digits) (r : List ℕ) → NoDigit r → skip isDigit (yieldMany ds r) ≡ r

@@ -21,7 +21,8 @@ use Rattle.json_grammar.specs.Grammar.{yieldMany, yieldToken, yieldUtf8,
 use Rattle.json_grammar.specs.Grammar.{yieldMinus, yieldInt, yieldFrac, yieldSign, yieldExp, yieldNumber}
 use Rattle.json_grammar.specs.Grammar.{yieldValue, yieldObject, yieldMember, yieldMembers, yieldArray, yieldElements, bytes}
 use Rattle.json_grammar.specs.Reader.{upTo}
-use Rattle.json_grammar.specs.ByteLaws.{and-both, either, within-true, white-cases, e-cases, sign-cases}
+use Rattle.common.specs.Truth.{both}
+use Rattle.json_grammar.specs.ByteLaws.{either, within-true, white-cases, e-cases, sign-cases}
 
 -- f puts bytes before what follows, k of them or more
 pub record Writes (k : ℕ) (f : List ℕ → List ℕ) : Type 0 where
@@ -123,9 +124,9 @@ hex b h = either _ _ h (λ e. range 0x30 0x39 b e (omega arith)) (λ e. range 0x
 unicode-escape : (a b c d : ℕ) → allHex a b c d ≡ true → Writes 1 (λ r. 0x5C ∷ 0x75 ∷ a ∷ b ∷ c ∷ d ∷ r)
 unfolding allHex
 unicode-escape a b c d h =
-    let i = and-both _ _ h in
-    let j = and-both _ _ (i .1) in
-    let k = and-both _ _ (j .1) in
+    let i = both _ _ h in
+    let j = both _ _ (i .1) in
+    let k = both _ _ (j .1) in
     byte 0x5C (omega arith) then byte 0x75 (omega arith) then hex a (i .0) then hex b (j .0) then hex c (k .0) then hex d (k .1)
 
 pub char : (c : Char) → Writes 1 (yieldChar c)

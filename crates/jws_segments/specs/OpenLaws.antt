@@ -12,6 +12,7 @@ use Rattle.common.specs.Decided.{test-false}
 use Rattle.common.specs.First.{_when_, first, all-pass}
 use Rattle.common.specs.Laid.{take-laid}
 use Rattle.common.specs.Same.{same, decides-same}
+use Rattle.common.specs.Truth.{neither}
 use Rattle.base64url_rules.specs.Base64url.{decode, strict, decodedLength}
 use Rattle.base64url_rules.specs.LengthLaws.{length-decode}
 use Rattle.base64url_rules.specs.Outcome.{Decoding, decodedTo, decoding}
@@ -104,10 +105,6 @@ all-strict true true true e = (refl, refl, refl)
 all-strict true true false e = absurd (true≢false e)
 all-strict true false c e = absurd (true≢false e)
 all-strict false b c e = absurd (true≢false e)
-
-neither : (a b : Bool) → a || b ≡ false → (a ≡ false) × (b ≡ false)
-neither true b e = absurd (true≢false e)
-neither false b e = (refl, e)
 
 pub clear : (x y z : List ℕ) (hr pr : ℕ) → first (segmentTests x y z hr pr) ≡ 0 → Clear x y z hr pr
 clear x y z hr pr e =

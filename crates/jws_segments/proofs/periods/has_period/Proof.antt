@@ -1,6 +1,6 @@
 -- `has_period` meets its contract: found, or in what is left.
 use mathlib.Core.Path.{_≡_, refl, sym, _∙_}
-use mathlib.Core.Bool.{Bool, true, false, cond, _||_}
+use mathlib.Core.Bool.{Bool, true, false, cond, _||_, or-false}
 use mathlib.Core.List.{List}
 use Prim.Native.Nat.{ℕ, suc, _+_, _-_, _≤_, _<_}
 use native.Mathlib.Numerals.{add-one}
@@ -17,10 +17,6 @@ use Rattle.jws_segments.proofs.periods.has_period.Tie as tie
 abbrev left : List ℕ → ℕ → Bool
 left s i = ltb 0 (periods (drop i s))
 
-found-only : (q : Bool) → q || false ≡ q
-found-only true = refl
-found-only false = refl
-
 -- a byte more, by whether it is a period; and nothing more
 one : (q found : Bool) (n : ℕ) → found || ltb 0 (cond q (suc n) n) ≡ (found || q) || ltb 0 n
 one true true n = refl
@@ -35,7 +31,7 @@ module _ (s : List ℕ) (i : ℕ) (found : Bool) where
 
   ended : length s ≤ i → found || left s i ≡ found
   unfolding periods
-  ended h = rw (drop-of-length-le s {i = i} h) (found-only found)
+  ended h = rw (drop-of-length-le s {i = i} h) (or-false found)
 
 abbrev Inv-loop : tie.InvT-loop
 Inv-loop s found₀ i₀ found i = (i ≤ length s) × (ltb 0 (periods s) ≡ found || left s i)
