@@ -19,8 +19,8 @@ use Rattle.jose.proofs.keys.choose.Tie as tie
 
 -- the key is chosen, ..
 picked : (c : tie.After-known-told)
-    → some (c .before .index .given .0 .0)
-    ≡ chosen (reading (now (c .before .before .before .before .before .before .args .header))) (keys (now (c .before .before .before .before .before .before .args .table)))
+    → let a = c .before .before .before .before .before .before .args in
+    some (c .before .index .given .0 .0) ≡ chosen (reading (now (a .header))) (keys (now (a .table)))
 picked c = sym (ap indexOf (c .before .index .given .1)) ∙ c .before .before .before .chosen-key .ensures
 
 -- .. it allows the algorithm, ..
