@@ -7,7 +7,7 @@ use native.Mathlib.Omega.{arith}
 use lib.Dec.{eqb}
 use lib.ListN.{length, getD, set}
 use Rattle.common.specs.Decided.{decided, decides-by}
-use Rattle.common.specs.First.{decides-eq}
+use Rattle.common.specs.FirstLaws.{decides-eq}
 use Rattle.common.specs.Laid.{laid-stores}
 use Rattle.common.specs.Ranges.{within}
 use Rattle.base64url_rules.specs.Alphabet.{value, inAlphabet}

@@ -5,7 +5,8 @@ use Prim.Native.Nat.{ℕ, _<_, _≤_}
 use native.Mathlib.Omega.{arith}
 use lib.Dec.{ltb}
 use borrow.Author.Tests.{lt-ltb, ltb-true, ltb-false, ne-eqb}
-use Rattle.common.specs.Ranges.{within, above}
+use Rattle.common.specs.Ranges.{within}
+use Rattle.common.specs.RangeLaws.{above}
 use Rattle.base64url_rules.specs.Alphabet.{value, character, inAlphabet}
 use Rattle.base64url_rules.specs.Tables.{entries, agree}
 

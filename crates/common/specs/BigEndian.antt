@@ -1,11 +1,7 @@
 -- Numbers in bytes, the highest first.
-use mathlib.Core.Path.{_≡_, refl, ap, _∙_}
 use mathlib.Core.List.{List, [], _∷_, _++_}
 use Prim.Native.Nat.{ℕ, zero, suc, _+_, _*_, _/_, _%_}
-use native.Mathlib.Omega.{arith}
-use native.Mathlib.Numerals.{add-one}
-use lib.ListN.{length, getD, length-append}
-use Rattle.common.specs.Bytes.{Bytes, none, more, bytes-append}
+use lib.ListN.{getD}
 
 -- the lowest n bytes of x
 unfoldable pub bigEndian : ℕ → ℕ → List ℕ
@@ -24,14 +20,3 @@ number2 = numberAt 2
 
 abbrev pub number4 : List ℕ → ℕ → ℕ
 number4 = numberAt 4
-
-pub length-bigEndian : (n x : ℕ) → length (bigEndian n x) ≡ n
-unfolding bigEndian
-length-bigEndian zero x = refl
-length-bigEndian (suc n) x =
-    length-append (bigEndian n (x / 256)) (x % 256 ∷ []) ∙ ap (λ (k : ℕ). k + 1) (length-bigEndian n (x / 256)) ∙ add-one n
-
-pub bytes-bigEndian : (n x : ℕ) → Bytes (bigEndian n x)
-unfolding bigEndian
-bytes-bigEndian zero x = none
-bytes-bigEndian (suc n) x = bytes-append (bytes-bigEndian n (x / 256)) (more (omega arith) none)

@@ -1,7 +1,8 @@
 -- What a test says of the condition that it decides.
 use mathlib.Core.Path.{_≡_, refl}
 use mathlib.Core.Bool.{Bool, true, false, not, true≢false, false≢true}
-use Rattle.common.specs.First.{Decides, holds, fails, decides-iff}
+use Rattle.common.specs.First.{Decides, holds, fails}
+use Rattle.common.specs.FirstLaws.{decides-iff}
 
 -- from the test's value to the condition
 pub when-true : {P : Type 0} {b : Bool} → Decides P b → b ≡ true → P

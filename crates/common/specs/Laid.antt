@@ -7,7 +7,8 @@ use native.Mathlib.Omega.{arith}
 use lib.ListN.{length, take, drop, set, replicate, length-append, length-drop, drop-of-length-le}
 use lib.Seq.{sets, sets-eq, paste, take-at, drop-at, drop-drop, take-all, take-length, length-take-le}
 use borrow.Rule.Slice.PartMut.{putMid}
-use Rattle.common.specs.Buffer.{filled, laid, Front, drop-replicate}
+use Rattle.common.specs.Buffer.{filled, laid, Front}
+use Rattle.common.specs.BufferLaws.{drop-replicate}
 
 -- stores in a row, as the code has them
 pub three-stores : (l : List ℕ) (n a b c : ℕ) → set (set (set l n a) (n + 1) b) (n + 2) c ≡ sets l n (a ∷ b ∷ c ∷ [])

@@ -6,7 +6,8 @@ use native.Mathlib.Nat.{div-eq-of-lt, mod-eq-of-lt, mul-add-div-right, mul-add-m
 use native.Mathlib.Omega.{arith}
 use borrow.Author.Count.{below-more}
 use lib.ListN.{getD}
-use Rattle.common.specs.Bytes.{Bytes, byte-at}
+use Rattle.common.specs.Bytes.{Bytes}
+use Rattle.common.specs.BytesLaws.{byte-at}
 
 -- the word in four bytes, and in eight, from place i on
 abbrev pub word4 : List ℕ → ℕ → ℕ

@@ -1,9 +1,7 @@
--- Ranges of bytes and other numbers, as tests, and what a test says.
-use mathlib.Core.Path.{_≡_}
-use mathlib.Core.Bool.{Bool, true, false, _&&_, and-false}
-use Prim.Native.Nat.{ℕ, _≤_, _<_}
+-- Ranges of bytes and other numbers, as tests.
+use mathlib.Core.Bool.{Bool, _&&_}
+use Prim.Native.Nat.{ℕ}
 use lib.Dec.{leb}
-use borrow.Author.Tests.{le-leb, lt-leb}
 
 -- lo ≤ b ≤ hi, in the documents' words %xlo-hi
 unfoldable pub within : ℕ → ℕ → ℕ → Bool
@@ -12,19 +10,3 @@ within lo hi b = leb lo b && leb b hi
 -- RFC 8259 section 6: DIGIT = %x30-39
 unfoldable pub isDigit : ℕ → Bool
 isDigit b = within 0x30 0x39 b
-
-pub within-is : (lo hi b : ℕ) → lo ≤ b → b ≤ hi → within lo hi b ≡ true
-unfolding within
-within-is lo hi b h k = rw (le-leb lo b h, le-leb b hi k)
-
-pub from-low : (lo hi b : ℕ) → lo ≤ b → leb b hi ≡ within lo hi b
-unfolding within
-from-low lo hi b h = rw (le-leb lo b h)
-
-pub below : (lo hi b : ℕ) → b < lo → within lo hi b ≡ false
-unfolding within
-below lo hi b h = rw (lt-leb lo b h)
-
-pub above : (lo hi b : ℕ) → hi < b → within lo hi b ≡ false
-unfolding within
-above lo hi b h = rw (lt-leb b hi h) (and-false (leb lo b))

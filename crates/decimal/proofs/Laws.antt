@@ -13,7 +13,8 @@ use mir.Syntax.{w64}
 use mir.Val.{toZ, SFits}
 use mir.ValLaws.{toZ-pos}
 use borrow.Author.Tests.{le-leb, lt-leb, leb-true, eq-eqb, ne-eqb}
-use Rattle.common.specs.Ranges.{isDigit, within-is, below as low, above as high}
+use Rattle.common.specs.Ranges.{isDigit}
+use Rattle.common.specs.RangeLaws.{within-is, below as low, above as high}
 use Rattle.decimal.specs.declared.Magnitude.{Magnitude}
 use Rattle.decimal.specs.declared.Magnitude.the-variants.{Of, Beyond}
 use Rattle.decimal.specs.declared.Integer.{Integer}

@@ -6,7 +6,8 @@ use mathlib.Core.Option.{Option, none, some}
 use Prim.Native.Nat.{ℕ, _+_, _-_, _<_}
 use lib.ListN.{length}
 use Rattle.common.specs.First.{Decides, holds}
-use Rattle.common.specs.Same.{same, decides-same}
+use Rattle.common.specs.Same.{same}
+use Rattle.common.specs.SameLaws.{decides-same}
 use Rattle.common.specs.Truth.{neither}
 use Rattle.json_grammar.specs.Value.{Value, Members, LItems, inil, icons, plainItem, plainItems, among, repeated}
 use Rattle.json_string.specs.declared.End.{End}

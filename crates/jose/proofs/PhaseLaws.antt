@@ -7,7 +7,8 @@ use Prim.Native.Nat.{ℕ, zero, suc, _≤_, _<_}
 use native.Mathlib.Omega.{arith}
 use lib.ListN.{length}
 use borrow.Author.Tests.{lt-ltb, le-ltb}
-use Rattle.common.specs.First.{Test, first, first-within, first-after}
+use Rattle.common.specs.First.{Test, first}
+use Rattle.common.specs.FirstLaws.{first-within, first-after}
 use Rattle.json_grammar.specs.Value.{Members}
 use Rattle.json_rules.specs.Rules.{longest, deepest}
 use Rattle.json_rules.specs.Answers.{grammarTests}

@@ -6,7 +6,8 @@ use mathlib.Core.Option.{Option, none, some}
 use Prim.Native.Nat.{ℕ, zero, suc, _<_}
 use native.Mathlib.Omega.{arith}
 use lib.ListN.{length}
-use Rattle.common.specs.First.{_when_, first, all-pass, first-next}
+use Rattle.common.specs.First.{_when_, first}
+use Rattle.common.specs.FirstLaws.{all-pass, first-next}
 use Rattle.json_grammar.specs.Value.{Value, Members}
 use Rattle.json_characters.specs.Utf8.{utf8}
 use Rattle.keytable_rules.specs.declared.Found.{Found}

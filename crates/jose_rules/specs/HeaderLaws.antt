@@ -5,9 +5,11 @@ use mathlib.Core.Bool.{Bool, true, false, cond}
 use mathlib.Core.List.{List, [], _∷_}
 use Prim.Native.Nat.{ℕ, _≤_}
 use Rattle.common.specs.Bytes.{Bytes}
-use Rattle.common.specs.First.{Rule, _on_, Test, NoneOf, condition, Decides, holds, fails, Agree, done, _by_, decides-iff, agree-append, _also_, none-left, none-right}
+use Rattle.common.specs.First.{Rule, _on_, Test, NoneOf, condition, Decides, holds, fails, Agree, done, _by_}
+use Rattle.common.specs.FirstLaws.{decides-iff, agree-append, _also_, none-left, none-right}
 use Rattle.common.specs.Decided.{when-false}
-use Rattle.common.specs.Same.{same, decides-same}
+use Rattle.common.specs.Same.{same}
+use Rattle.common.specs.SameLaws.{decides-same}
 use Rattle.common.specs.Truth.{neither}
 use Rattle.json_grammar.specs.Twice.{TwiceNamed}
 use Rattle.json_grammar.specs.Value.{Value, objectV, among, repeated, names, LMembers, named, lnil, lcons, plainItem, plainMembers}

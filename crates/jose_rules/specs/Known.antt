@@ -10,16 +10,19 @@ use lib.Dec.{eqb}
 use lib.IntN.{ℤ, pos, negsuc, natAbs}
 use lib.Signed.{ltZ, _<ℤ_}
 use lib.ListN.{length}
-use Rattle.common.specs.First.{Decides, holds, fails, Agree, done, _by_, decides-or, decides-not, decides-iff, decides-eq, among, numbers, condition, earlier, NoneOf, first, first-stands, none-stands}
+use Rattle.common.specs.First.{Decides, holds, fails, Agree, done, _by_, among, numbers, condition, earlier, NoneOf, first}
+use Rattle.common.specs.FirstLaws.{decides-or, decides-not, decides-iff, decides-eq, first-stands, none-stands}
 use Rattle.json_grammar.specs.Value.{Value, Members, objectV, mnil, mcons, among as amongNames, repeated, names}
-use Rattle.json_grammar.specs.Twice.{ObjectIn, TwiceNamed, decides-repeated}
+use Rattle.json_grammar.specs.Twice.{ObjectIn, TwiceNamed}
+use Rattle.json_grammar.specs.TwiceLaws.{decides-repeated}
 use Rattle.json_characters.specs.Utf8.{utf8}
 use Rattle.keytable_rules.specs.declared.Found.{Found}
 use Rattle.keytable_rules.specs.declared.Found.the-variants.{At, Nothing}
 use Rattle.keytable_rules.specs.Key.{Key, key, Distinct, Named, find, only, allowsHS256, allowsFormat}
 use Rattle.keytable_rules.specs.KeyLaws.{found, not-found, find-is}
 use Rattle.common.specs.Decided.{when-false, decided, decides-false, test-false}
-use Rattle.common.specs.Same.{same, decides-same}
+use Rattle.common.specs.Same.{same}
+use Rattle.common.specs.SameLaws.{decides-same}
 use Rattle.common.specs.Truth.{neither}
 use Rattle.jose_rules.specs.Names.{alg, kid, typ, cty, crit, fmt, HS256}
 use Rattle.jose_rules.specs.Members.{Has, Lacks, Kind, string, strings, integer, Says, Wrong, Some}

@@ -5,7 +5,8 @@ use mathlib.Core.List.{List, [], _∷_}
 use mathlib.Core.Option.{Option, none, some}
 use Prim.Native.Nat.{ℕ}
 use Rattle.common.specs.First.{Decides, holds, fails}
-use Rattle.common.specs.Same.{same, decides-same}
+use Rattle.common.specs.Same.{same}
+use Rattle.common.specs.SameLaws.{decides-same}
 use Rattle.common.specs.Truth.{neither}
 use Rattle.json_grammar.specs.Value.{Members, mnil, mcons, among, repeated}
 use Rattle.keytable_rules.specs.Key.{Key}

@@ -6,7 +6,8 @@ use mathlib.Core.Bool.{true}
 use mathlib.Core.List.{List, _∷_}
 use Prim.Native.Nat.{ℕ, zero, suc, _<_}
 use lib.ListN.{length}
-use Rattle.common.specs.First.{Rule, _on_, Test, _when_, first, among, numbers, condition, earlier, NoneOf, Agree, _by_, first-stands, none-stands, decides-lt}
+use Rattle.common.specs.First.{Rule, _on_, Test, _when_, first, among, numbers, condition, earlier, NoneOf, Agree, _by_}
+use Rattle.common.specs.FirstLaws.{first-stands, none-stands, decides-lt}
 use Rattle.common.specs.Decided.{test-false}
 use Rattle.json_rules.specs.Rules.{longest}
 use Rattle.keytable_rules.specs.Key.{Distinct}

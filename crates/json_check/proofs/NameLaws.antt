@@ -9,7 +9,8 @@ use lib.Dec.{eqb}
 use lib.ListN.{length, drop, getD, set, drop-of-length-le}
 use lib.Seq.{getD-set-same, getD-set-other}
 use borrow.Author.Tests.{eqb-true, eqb-false, ne-eqb}
-use Rattle.common.specs.Same.{same, same-sym}
+use Rattle.common.specs.Same.{same}
+use Rattle.common.specs.SameLaws.{same-sym}
 use Rattle.json_grammar.specs.Value.{among, repeated, names, LMembers, item, named, lnil, lcons, plain}
 use Rattle.json_grammar.specs.Reader.{Got, bad, got, readChars}
 use Rattle.json_grammar.specs.Scan.{namesTwice, scan-string, scan}

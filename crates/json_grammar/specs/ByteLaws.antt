@@ -7,7 +7,7 @@ use lib.Dec.{leb, eqb}
 use borrow.Author.Tests.{leb-true, eqb-true}
 use Rattle.common.specs.Truth.{both}
 use Rattle.json_grammar.specs.Bytes.{within, isWs, isE, isSign}
-pub use Rattle.common.specs.Ranges.{within-is, from-low, below, above}
+pub use Rattle.common.specs.RangeLaws.{within-is, from-low, below, above}
 
 -- TESTS
 

@@ -2,6 +2,7 @@
 pub mod Bytes
 pub mod Value
 pub mod Twice
+pub mod TwiceLaws
 pub mod Grammar
 pub mod Places
 pub mod Shown

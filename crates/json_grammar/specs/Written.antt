@@ -6,7 +6,8 @@ use Prim.Native.Nat.{ℕ, _≤_, _<_, _+_, _-_, max}
 use native.Mathlib.Omega.{arith}
 use lib.ListN.{length, take, length-append}
 use lib.Seq.{take-at}
-use Rattle.common.specs.Bytes.{Bytes, bytes-append}
+use Rattle.common.specs.Bytes.{Bytes}
+use Rattle.common.specs.BytesLaws.{bytes-append}
 use Rattle.common.specs.Bytes
 use Rattle.json_grammar.specs.Bytes.{within, isDigit, isDigit19, isHex, isTail, allHex}
 use Rattle.json_grammar.specs.Grammar.{Many, none, more, Ws, Token, Utf8, utf8-1, utf8-2, utf8-E0, utf8-E1, utf8-ED, utf8-EE, utf8-F0, utf8-F1, utf8-F4}

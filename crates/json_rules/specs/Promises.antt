@@ -10,8 +10,9 @@ use lib.ListN.{length}
 use borrow.Author.Tests.{ltb-false, ne-eqb}
 use Rattle.common.specs.Decided.{test-false}
 use Rattle.common.specs.First.{Test, _when_, first, among, condition, earlier, NoneOf, Decides, holds, fails, Agree, done, _by_}
-use Rattle.common.specs.First.{first-stands, none-stands, in-range, agree-append, decides-lt, decides-not, decides-iff, stable}
-use Rattle.json_grammar.specs.Twice.{TwiceNamed, decides-twice}
+use Rattle.common.specs.FirstLaws.{first-stands, none-stands, in-range, agree-append, decides-lt, decides-not, decides-iff, stable}
+use Rattle.json_grammar.specs.Twice.{TwiceNamed}
+use Rattle.json_grammar.specs.TwiceLaws.{decides-twice}
 use Rattle.json_grammar.specs.Value.{Members, objectV, LMembers, lnil, lcons, named, plain, plainMembers}
 use Rattle.json_grammar.specs.Grammar.{Derivation, Derived, bytes, readingOf, depthOf, membersOf}
 use Rattle.json_grammar.specs.Places.{Kind, stringK, numberK, trueK, falseK, nullK, arrayK, objectK, Found, no-member, found, placed, member}

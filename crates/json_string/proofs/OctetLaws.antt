@@ -9,7 +9,8 @@ use lib.Dec.{eqb}
 use lib.ListN.{length, take, drop, getD, length-take, length-drop, length-append, drop-of-length-le}
 use lib.Seq.{getD-take}
 use borrow.Author.Tests.{eq-eqb, ne-eqb}
-use Rattle.common.specs.Same.{same, same-longer}
+use Rattle.common.specs.Same.{same}
+use Rattle.common.specs.SameLaws.{same-longer}
 use Rattle.json_string.specs.declared.End.the-variants.{At, Bad}
 use Rattle.json_string.specs.Ends.{at-byte}
 use Rattle.json_characters.specs.Utf8.{octets}

@@ -8,7 +8,8 @@ use lib.Dec.{eqb}
 use lib.ListN.{length, drop, getD, drop-of-length-le}
 use borrow.Author.Tests.{eq-eqb, ne-eqb, eqb-true, eqb-false}
 use Rattle.common.specs.Decided.{test-false}
-use Rattle.common.specs.Same.{same, decides-same}
+use Rattle.common.specs.Same.{same}
+use Rattle.common.specs.SameLaws.{decides-same}
 use Rattle.json_grammar.specs.Reader.{Got, bad, got, over}
 use Rattle.json_string.specs.declared.End.{End}
 use Rattle.json_string.specs.declared.End.the-variants.{At, Bad}

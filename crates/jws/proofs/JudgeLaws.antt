@@ -7,7 +7,8 @@ use native.Mathlib.Nat.{sub-zero}
 use native.Mathlib.Omega.{arith}
 use lib.ListN.{length, take, drop}
 use borrow.Author.Tests.{lt-ltb, le-ltb, eq-eqb, ne-eqb, not-true, not-false}
-use Rattle.common.specs.First.{_when_, first, first-within, first-after}
+use Rattle.common.specs.First.{_when_, first}
+use Rattle.common.specs.FirstLaws.{first-within, first-after}
 use Rattle.common.specs.Laid.{part-from}
 use Rattle.common.specs.Same.{same}
 use Rattle.hmac.specs.Hmac.{HMACSHA256}

@@ -7,9 +7,10 @@ use Prim.Native.Nat.{ℕ, _≤_, _<_}
 use native.Mathlib.Omega.{arith}
 use lib.ListN.{length}
 use Rattle.common.specs.Bytes.{Bytes}
-use Rattle.common.specs.First.{Rule, _on_, NoneOf, earlier, not-on, _also_, none-append, none-left, none-right, decides-bool, decides-eq, stable}
+use Rattle.common.specs.First.{Rule, _on_, NoneOf, earlier}
+use Rattle.common.specs.FirstLaws.{not-on, _also_, none-append, none-left, none-right, decides-bool, decides-eq, stable}
 use Rattle.common.specs.Decided.{test-false}
-use Rattle.common.specs.Same.{decides-same}
+use Rattle.common.specs.SameLaws.{decides-same}
 use Rattle.base64url_rules.specs.Base64url.{encode, strict}
 use Rattle.base64url_rules.specs.RoundTrip.{strict-encode, decode-bytes}
 use Rattle.json_rules.specs.Rules.{longest}

@@ -7,7 +7,8 @@ use Prim.Native.Nat.{ℕ, zero, suc, _+_, _*_, _/_, _≤_, _<_}
 use native.Mathlib.Omega.{arith}
 use lib.ListN.{length, replicate, length-append, length-replicate}
 use Rattle.common.specs.Bytes.{Bytes, none, more}
-use Rattle.common.specs.First.{NoneOf, _on_, earlier, first, none-stands, none-append, _also_}
+use Rattle.common.specs.First.{NoneOf, _on_, earlier, first}
+use Rattle.common.specs.FirstLaws.{none-stands, none-append, _also_}
 use Rattle.common.specs.Same.{same}
 use Rattle.base64url_rules.specs.Alphabet.{character, value}
 use Rattle.base64url_rules.specs.Base64url.{encode, decode, alphabetic, unusedBits, strict}

@@ -12,7 +12,8 @@ use lib.Seq.{take-append-seam}
 use borrow.Author.Tests.{le-leb, lt-leb, le-ltb}
 use Rattle.common.specs.Bytes.{Bytes}
 use Rattle.common.specs.Buffer.{filled}
-use Rattle.common.specs.First.{NoneOf, condition, earlier, numbers, among, first-stands, none-stands, in-range, not-on, _also_}
+use Rattle.common.specs.First.{NoneOf, condition, earlier, numbers, among}
+use Rattle.common.specs.FirstLaws.{first-stands, none-stands, in-range, not-on, _also_}
 use Rattle.json_rules.specs.Rules.{longest}
 use Rattle.json_rules.specs.Promises.{memberNumber, Read, member-first, read-exactly}
 use Rattle.keytable_rules.specs.Key.{Key}

@@ -6,9 +6,11 @@ use mathlib.Core.List.{List}
 use Prim.Native.Nat.{ℕ, zero, suc, _≤_}
 use native.Mathlib.Omega.{arith}
 use lib.ListN.{length}
-use Rattle.common.specs.First.{NoneOf, earlier, not-on, _also_, first, Decides, Agree, done, _by_, none-stands, agree-append, decides-bool, decides-lt, decides-eq, decides-not, decides-or, decides-iff}
+use Rattle.common.specs.First.{NoneOf, earlier, first, Decides, Agree, done, _by_}
+use Rattle.common.specs.FirstLaws.{not-on, _also_, none-stands, agree-append, decides-bool, decides-lt, decides-eq, decides-not, decides-or, decides-iff}
 use Rattle.common.specs.Decided.{when-false, decides-false}
-use Rattle.common.specs.Same.{same, decides-same}
+use Rattle.common.specs.Same.{same}
+use Rattle.common.specs.SameLaws.{decides-same}
 use Rattle.base64url_rules.specs.Base64url.{strict}
 use Rattle.hmac.specs.Hmac.{HMACSHA256}
 use Rattle.json_rules.specs.Rules.{longest}

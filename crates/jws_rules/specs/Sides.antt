@@ -6,7 +6,8 @@ use mathlib.Core.List.{List, [], _∷_}
 use Prim.Native.Nat.{ℕ, _≤_, _<_}
 use native.Mathlib.Omega.{arith}
 use lib.ListN.{length}
-use Rattle.common.specs.First.{NoneOf, earlier, not-on, none-right, _also_}
+use Rattle.common.specs.First.{NoneOf, earlier}
+use Rattle.common.specs.FirstLaws.{not-on, none-right, _also_}
 use Rattle.json_grammar.specs.Reader.{skip, read}
 use Rattle.json_grammar.specs.Unique.{not-derived}
 use Rattle.base64url_rules.specs.Base64url.{encode, decode, alphabetic, unusedBits, strict}

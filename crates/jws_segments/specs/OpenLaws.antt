@@ -9,9 +9,11 @@ use lib.ListN.{length, take, replicate, length-take}
 use borrow.Author.Tests.{lt-ltb, le-ltb, ltb-false, eqb-true, eqb-false}
 use Rattle.common.specs.Buffer.{laid}
 use Rattle.common.specs.Decided.{test-false}
-use Rattle.common.specs.First.{_when_, first, all-pass}
+use Rattle.common.specs.First.{_when_, first}
+use Rattle.common.specs.FirstLaws.{all-pass}
 use Rattle.common.specs.Laid.{take-laid}
-use Rattle.common.specs.Same.{same, decides-same}
+use Rattle.common.specs.Same.{same}
+use Rattle.common.specs.SameLaws.{decides-same}
 use Rattle.common.specs.Truth.{neither}
 use Rattle.base64url_rules.specs.Base64url.{decode, strict, decodedLength}
 use Rattle.base64url_rules.specs.LengthLaws.{length-decode}

@@ -6,7 +6,8 @@ use Prim.Native.Nat.{ℕ, _+_, _≤_, _<_}
 use native.Mathlib.Omega.{arith}
 use lib.ListN.{length}
 use borrow.Author.Tests.{lt-ltb, le-ltb}
-use Rattle.common.specs.First.{Rule, _on_, Test, _when_, first, Agree, _by_, none-stands, first-past, first-within, decides-lt}
+use Rattle.common.specs.First.{Rule, _on_, Test, _when_, first, Agree, _by_}
+use Rattle.common.specs.FirstLaws.{none-stands, first-past, first-within, decides-lt}
 use Rattle.base64url_rules.specs.Base64url.{encodedLength}
 use Rattle.base64url_rules.specs.LengthLaws.{length-encode, encoded-length}
 use Rattle.json_rules.specs.Rules.{longest}

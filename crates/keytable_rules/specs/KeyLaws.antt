@@ -8,10 +8,12 @@ use native.Mathlib.Omega.{arith}
 use lib.Dec.{eqb}
 use lib.ListN.{length}
 use borrow.Author.Tests.{eq-eqb, ne-eqb}
-use Rattle.common.specs.First.{Decides, holds, fails, decides-eq}
+use Rattle.common.specs.First.{Decides, holds, fails}
+use Rattle.common.specs.FirstLaws.{decides-eq}
 use Rattle.keytable_rules.specs.declared.Found.{Found}
 use Rattle.keytable_rules.specs.declared.Found.the-variants.{At, Nothing}
-use Rattle.common.specs.Same.{same, decides-same}
+use Rattle.common.specs.Same.{same}
+use Rattle.common.specs.SameLaws.{decides-same}
 use Rattle.keytable_rules.specs.Key.{Key, key, Distinct, Named, Finds, first, none, oneOn, find, only}
 
 -- one key more in front

@@ -7,9 +7,10 @@ use Prim.Native.Nat.{ℕ, zero, suc, _+_, _≤_, _<_}
 use native.Mathlib.Nat.{le-of-suc-le-suc, not-suc-le-zero, eq-or-lt-of-le}
 use native.Mathlib.Omega.{arith}
 use lib.ListN.{length, getD}
-use Rattle.common.specs.First.{Decides, holds, decides-not, decides-le, decides-lt, decides-eq, stable, _and_}
+use Rattle.common.specs.First.{Decides, holds}
+use Rattle.common.specs.FirstLaws.{decides-not, decides-le, decides-lt, decides-eq, stable, _and_}
 use Rattle.common.specs.Decided.{when-true, decides-by}
-use Rattle.common.specs.Same.{decides-same}
+use Rattle.common.specs.SameLaws.{decides-same}
 use Rattle.keytable_rules.specs.Key.{key, noKey}
 use Rattle.keytable_rules.specs.Table.{entrySize, tableLeast, countOf, entryAt, Area, idOf, Placed, GoodEntry, GoodEntries, NewId, Wellformed, below, isPlaced, isGoodEntry, isNewId, isWellformed, badTable, keyOf, listed, keys}
 

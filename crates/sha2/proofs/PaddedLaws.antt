@@ -6,8 +6,9 @@ use native.Mathlib.Nat.{mul-assoc, pow-succ', mod-add-div}
 use native.Mathlib.Omega.{arith}
 use lib.ListN.{length, take, set, replicate, length-append, length-replicate}
 use lib.Seq.{paste, take-append-add, take-paste, take-all, set-append-seam}
-use Rattle.common.specs.BigEndian.{bigEndian, length-bigEndian}
-use Rattle.common.specs.Buffer.{take-replicate}
+use Rattle.common.specs.BigEndian.{bigEndian}
+use Rattle.common.specs.BigEndianLaws.{length-bigEndian}
+use Rattle.common.specs.BufferLaws.{take-replicate}
 use Rattle.common.specs.Laid.{copied-zeros}
 use Rattle.sha2_compression.specs.Parameters.{Parameters, sha-256}
 use Rattle.sha2.specs.Hash.{lengthBytes, zeros, padding}

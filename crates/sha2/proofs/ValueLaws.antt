@@ -7,7 +7,8 @@ use native.Mathlib.Numerals.{add-one}
 use native.Mathlib.Omega.{arith}
 use lib.ListN.{length, getD, take, drop}
 use lib.Seq.{paste}
-use Rattle.common.specs.BigEndian.{bigEndian, length-bigEndian}
+use Rattle.common.specs.BigEndian.{bigEndian}
+use Rattle.common.specs.BigEndianLaws.{length-bigEndian}
 use Rattle.sha2_compression.specs.Parameters.{sha-256}
 use Rattle.sha2_compression.specs.Compression.{compressed}
 use Rattle.sha2.specs.Hash.{hashValue, wordBytes}

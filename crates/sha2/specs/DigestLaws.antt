@@ -4,8 +4,10 @@ use mathlib.Core.List.{List}
 use Prim.Native.Nat.{ℕ, zero, suc, _*_, _/_}
 use native.Mathlib.Nat.{zero-mul, suc-mul}
 use lib.ListN.{length, getD, length-append}
-use Rattle.common.specs.Bytes.{Bytes, none, bytes-append}
-use Rattle.common.specs.BigEndian.{bigEndian, length-bigEndian, bytes-bigEndian}
+use Rattle.common.specs.Bytes.{Bytes, none}
+use Rattle.common.specs.BytesLaws.{bytes-append}
+use Rattle.common.specs.BigEndian.{bigEndian}
+use Rattle.common.specs.BigEndianLaws.{length-bigEndian, bytes-bigEndian}
 use Rattle.sha2_compression.specs.Parameters.{Parameters, sha-256}
 use Rattle.sha2.specs.Hash.{wordBytes, hash, SHA256}
 

@@ -4,7 +4,8 @@ use mathlib.Core.List.{_∷_}
 use Prim.Native.Nat.{ℕ, _+_, _-_, _*_, _%_, _≤_}
 use native.Mathlib.Omega.{arith}
 use lib.ListN.{length, replicate, length-append, length-replicate}
-use Rattle.common.specs.BigEndian.{bigEndian, length-bigEndian}
+use Rattle.common.specs.BigEndian.{bigEndian}
+use Rattle.common.specs.BigEndianLaws.{length-bigEndian}
 use Rattle.sha2_compression.specs.Parameters.{Parameters, sha-256}
 use Rattle.sha2.specs.Hash.{lengthBytes, zeros, padding}
 

@@ -10,8 +10,8 @@ use lib.ListN.{getD}
 use lib.Seq.{ext-getD}
 use borrow.Author.Count.{below-more}
 use Rattle.common.specs.Decided.{decided}
-use Rattle.common.specs.First.{decides-eq, decides-iff}
-use Rattle.common.specs.Same.{decides-same}
+use Rattle.common.specs.FirstLaws.{decides-eq, decides-iff}
+use Rattle.common.specs.SameLaws.{decides-same}
 use Rattle.jws_segments.proofs.equal.all_equal.Statement.{statement}
 use Rattle.jws_segments.proofs.equal.all_equal.Tie as tie
 

@@ -2,7 +2,8 @@
 use mathlib.Core.Path.{sym, _∙_}
 use native.Mathlib.Omega.{arith}
 use borrow.Author.Needs.{needs}
-use Rattle.common.specs.First.{fails, decides-eq}
+use Rattle.common.specs.First.{fails}
+use Rattle.common.specs.FirstLaws.{decides-eq}
 use Rattle.common.specs.Decided.{decides-by, when-true, when-false}
 use Rattle.keytable.proofs.entries.good_entry.Statement.{statement}
 use Rattle.keytable.proofs.entries.good_entry.Tie as tie

@@ -5,7 +5,7 @@ use native.Mathlib.Omega.{arith}
 use borrow.Author.Needs.{needs}
 use lib.ListN.{length, take}
 use lib.Seq.{take-all, length-paste}
-use Rattle.common.specs.BigEndian.{length-bigEndian}
+use Rattle.common.specs.BigEndianLaws.{length-bigEndian}
 use Rattle.sha2.specs.Hash.{wordBytes}
 use Rattle.sha2.proofs.ValueLaws.{one-word-bytes}
 use Rattle.sha2.proofs.digest.digest.Statement.{statement}

@@ -4,7 +4,7 @@ use Prim.Native.Nat.{_-_, _*_}
 use native.Mathlib.Omega.{arith}
 use borrow.Author.Needs.{needs}
 use lib.ListN.{length, length-set}
-use Rattle.common.specs.BigEndian.{length-bigEndian}
+use Rattle.common.specs.BigEndianLaws.{length-bigEndian}
 use Rattle.sha2_compression.specs.Parameters.{sha-256}
 use Rattle.sha2.proofs.PaddedLaws.{modulo, ends, last}
 use Rattle.sha2.proofs.padding.last_blocks.Statement.{statement}
