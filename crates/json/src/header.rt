@@ -1,4 +1,7 @@
 // What a header answers, and its members.
+use answers::DONE;
+use answers::HEADER_TOO_LONG;
+use answers::NO_SUCH_MEMBER;
 use json_check::check_text;
 use json_members::Kind;
 use json_members::entry_at;
@@ -21,7 +24,7 @@ pub fn check(header: &[u8]) -> u8
     ensures { λ r. ⌜ r ≡ checked (now (header .entry)) ⌝ }
 {
     if LONGEST < header.len() {
-        return 5;
+        return HEADER_TOO_LONG;
     }
     check_text(header, DEEPEST)
 }
@@ -63,7 +66,7 @@ fn nth_member(s: &[u8], from: usize, depth: usize, k: usize) -> Member
                 left -= 1;
             }
             End::Bad => {
-                return Member::Refused(16);
+                return Member::Refused(NO_SUCH_MEMBER);
             }
         }
     }
@@ -75,13 +78,13 @@ pub fn member(header: &[u8], k: usize) -> Member
     ensures { λ r. ⌜ r ≡ memberOf (now (header .entry)) k ⌝ }
 {
     let n = check(header);
-    if n == 0 {
+    if n == DONE {
         match top_members(header) {
             End::At(p) => {
                 return nth_member(header, p, DEEPEST - 1, k);
             }
             End::Bad => {
-                return Member::Refused(16);
+                return Member::Refused(NO_SUCH_MEMBER);
             }
         }
     }

@@ -2,6 +2,9 @@
 mod names; // names.rt: names that stand twice in one object
 
 use crate::names::twice_from;
+use answers::DONE;
+use answers::NAME_TWICE;
+use answers::NOT_DERIVED;
 use json_reader::text;
 ghost use mathlib.Core.Path.{_≡_};
 ghost use Rattle.common.specs.First.{first};
@@ -14,9 +17,9 @@ pub fn check_text(s: &[u8], depth: usize) -> u8
 {
     if text(s, depth) {
         if twice_from(s, 0, depth) {
-            return 8;
+            return NAME_TWICE;
         }
-        return 0;
+        return DONE;
     }
-    7
+    NOT_DERIVED
 }

@@ -1,0 +1,52 @@
+// The answers of every call, numbered as in docs/SPECIFICATION.md and named as in include/jws.h. This crate has no code.
+
+// Accepted, signed, or the member found.
+pub const DONE: u8 = 0;
+
+// The token is longer than its limit.
+pub const TOKEN_TOO_LONG: u8 = 1;
+
+// The key table is bad.
+pub const BAD_TABLE: u8 = 2;
+
+// The token hasn't exactly two periods.
+pub const NOT_TWO_PERIODS: u8 = 3;
+
+// A segment isn't strict base64url.
+pub const NOT_BASE64URL: u8 = 4;
+
+// The header is longer than its limit.
+pub const HEADER_TOO_LONG: u8 = 5;
+
+// A buffer is shorter than what it must hold.
+pub const BUFFER_TOO_SHORT: u8 = 6;
+
+// The header isn't derived by the grammar within the depth.
+pub const NOT_DERIVED: u8 = 7;
+
+// One object of the header has a name twice.
+pub const NAME_TWICE: u8 = 8;
+
+// A known member is missing or has the wrong kind.
+pub const WRONG_KIND: u8 = 9;
+
+// A critical rule is broken.
+pub const CRITICAL: u8 = 10;
+
+// `alg` is another algorithm.
+pub const WRONG_ALG: u8 = 11;
+
+// No key is found.
+pub const NO_KEY: u8 = 12;
+
+// The key doesn't allow the algorithm.
+pub const ALG_NOT_ALLOWED: u8 = 13;
+
+// The key doesn't allow the format, or there is no such format.
+pub const FORMAT_NOT_ALLOWED: u8 = 14;
+
+// The signature is another one.
+pub const SIGNATURE_DIFFERS: u8 = 15;
+
+// The top object has no such member.
+pub const NO_SUCH_MEMBER: u8 = 16;
