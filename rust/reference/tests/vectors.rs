@@ -6,7 +6,7 @@ use reference::base64url;
 use reference::hmac::hmac_sha256;
 use reference::sha256::digest;
 
-const PUBLISHED: &str = concat!(env!("CARGO_MANIFEST_DIR"), "/../../crates/vectors/stdin");
+const PUBLISHED: &str = concat!(env!("CARGO_MANIFEST_DIR"), "/../../crates/codec_vectors/stdin");
 
 /// The rows that begin with `name`, their further words; there are `count`.
 fn rows(name: &str, count: usize) -> Vec<Vec<String>> {
