@@ -12,14 +12,14 @@ use Rattle.common.specs.Laid.{laid-stores}
 use Rattle.common.specs.Ranges.{within}
 use Rattle.base64url_rules.specs.Alphabet.{value, inAlphabet}
 use Rattle.base64url_rules.specs.Base64url.{decode, alphabetic, unusedBits, strict, byte1, byte2, byte3}
-use Rattle.base64url_rules.specs.Listed.{listed}
+use Rattle.base64url_rules.specs.Listed.{as-entries}
 use Rattle.base64url_rules.specs.Tables.{entries}
 use Rattle.base64url_decoding.specs.Writing.{Decodes, Grouped}
 use Rattle.base64url_decoding.proofs.DecodeLaws.{not-strict}
 
 -- a text of n characters, by these one by one
 pub as-listed : (s : List ℕ) (n : ℕ) {out₀ out : List ℕ} {ok : Bool} → length s ≡ n → Decodes (entries (λ i. getD s i 0) 0 n) out₀ ok out → Decodes s out₀ ok out
-as-listed s n {out₀} {out} {ok} h d = subst (λ (l : List ℕ). Decodes l out₀ ok out) (listed s n h) d
+as-listed s n {out₀} {out} {ok} h d = subst (λ (l : List ℕ). Decodes l out₀ ok out) (as-entries s n h) d
 
 zero-test : (n m : ℕ) → (n ≡ 0 → m ≡ 0) → (m ≡ 0 → n ≡ 0) → eqb n 0 ≡ eqb m 0
 zero-test n m f g = decided (decides-by (decides-eq n 0) f g) (decides-eq m 0)

@@ -8,7 +8,7 @@ use Rattle.common.specs.Buffer.{laid}
 use Rattle.common.specs.Laid.{laid-stores, part-from}
 use Rattle.base64url_rules.specs.Base64url.{encode, encodedLength}
 use Rattle.base64url_rules.specs.LengthLaws.{encoded-length}
-use Rattle.base64url_rules.specs.Listed.{listed}
+use Rattle.base64url_rules.specs.Listed.{as-entries}
 use Rattle.base64url_rules.specs.Tables.{entries}
 
 -- the rest is short, and fits where the whole does
@@ -26,7 +26,7 @@ rest-fits s out h =
 
 -- n bytes, by these one by one
 pub as-listed : (s : List ℕ) (n : ℕ) (out₀ : List ℕ) {out : List ℕ} → length s ≡ n → out ≡ laid (encode (entries (λ i. getD s i 0) 0 n)) out₀ → out ≡ laid (encode s) out₀
-as-listed s n out₀ h e = e ∙ ap (λ (l : List ℕ). laid (encode l) out₀) (listed s n h)
+as-listed s n out₀ h e = e ∙ ap (λ (l : List ℕ). laid (encode l) out₀) (as-entries s n h)
 
 -- one byte and two, by the characters of their group
 pub one-byte : (x a b c d : ℕ) (out : List ℕ) → encode (x ∷ 0 ∷ 0 ∷ []) ≡ a ∷ b ∷ c ∷ d ∷ [] → 2 ≤ length out → set (set out 0 a) 1 b ≡ laid (encode (x ∷ [])) out

@@ -11,7 +11,7 @@ use Rattle.common.specs.Laid.{part-from, grown, grown-part}
 use Rattle.base64url_rules.specs.Base64url.{encode, decode}
 use Rattle.base64url_rules.specs.GroupLaws.{decode-append, encode-append}
 use Rattle.base64url_rules.specs.LengthLaws.{length-decode, length-encode, encoded-length}
-use Rattle.base64url_rules.specs.Listed.{listed}
+use Rattle.base64url_rules.specs.Listed.{as-entries}
 use Rattle.base64url_rules.specs.Tables.{entries}
 
 -- f gives m numbers for each n; and for whole groups and what follows them, what it gives for each
@@ -33,7 +33,7 @@ pub taken-more : (s : List ℕ) (a k n end : ℕ) → k ≡ n → end ≡ a + n 
 taken-more s a k n end e f h =
     let size : length (take k (drop a s)) ≡ n = length-take-le k (drop a s) (rw (length-drop a s) (omega arith)) ∙ e in
     let to : end ≡ a + k = omega arith in
-    rw (to, listed (take k (drop a s)) n size) (take-add a k s)
+    rw (to, as-entries (take k (drop a s)) n size) (take-add a k s)
 
 -- what f gives for the first a numbers, whole groups of n, stands at the front of the buffer, b numbers
 module _ {f : List ℕ → List ℕ} {n m : ℕ} (g : Grouping f n m) (s out₀ : List ℕ) (a b : ℕ) (groups : a % n ≡ 0) (place : a / n * m ≡ b) (within : a ≤ length s) where

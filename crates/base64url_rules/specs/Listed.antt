@@ -13,8 +13,8 @@ length-entries f i zero = refl
 length-entries f i (suc n) = ap suc (length-entries f (suc i) n)
 
 -- with a numeral for n, the left side computes to `getD s 0 0 ∷ getD s 1 0 ∷ ..`
-pub listed : (s : List ℕ) (n : ℕ) → length s ≡ n → entries (λ i. getD s i 0) 0 n ≡ s
-listed s n h =
+pub as-entries : (s : List ℕ) (n : ℕ) → length s ≡ n → entries (λ i. getD s i 0) 0 n ≡ s
+as-entries s n h =
     let f : ℕ → ℕ = λ i. getD s i 0 in
     let e = length-entries f 0 n in
     ext-getD 0 (entries f 0 n) s (e ∙ sym h) (λ i k. entry f n i (omega arith))

@@ -17,10 +17,10 @@ use Rattle.base64url_rules.specs.declared.Decoded.{Decoded}
 use Rattle.base64url_rules.specs.declared.Encoded.{Encoded}
 
 -- decoding: a text and a buffer, the answer and the buffer afterwards
-pub data Judged (text out : List ℕ) : Decoded → List ℕ → Type 0 where
-  written : strict text ≡ true → length (decode text) ≤ length out → Judged text out (Decoded.Bytes (length (decode text))) (laid (decode text) out)
-  faulty : {place : ℕ} → strict text ≡ false → fault text ≡ some place → Judged text out (Decoded.Fault place) (cleared out)
-  short : strict text ≡ true → length out < length (decode text) → Judged text out Decoded.Short (cleared out)
+pub data Answered (text out : List ℕ) : Decoded → List ℕ → Type 0 where
+  written : strict text ≡ true → length (decode text) ≤ length out → Answered text out (Decoded.Bytes (length (decode text))) (laid (decode text) out)
+  faulty : {place : ℕ} → strict text ≡ false → fault text ≡ some place → Answered text out (Decoded.Fault place) (cleared out)
+  short : strict text ≡ true → length out < length (decode text) → Answered text out Decoded.Short (cleared out)
 
 -- a text with a fault is not strict
 pub faulty-strict : (text : List ℕ) {place : ℕ} → fault text ≡ some place → strict text ≡ false
@@ -31,23 +31,23 @@ faulty-strict text {place} e = go (strict text) refl
     go true h = let n = strict-faultless text .0 h in let z : _≡_ {A = ℕ} 0 1 = cc in absurd (omega arith)
 
 module _ (text out : List ℕ) where
-  pub judged-right : Judged text out (decoding text out .answer) (decoding text out .buffer)
+  pub judged-right : Answered text out (decoding text out .answer) (decoding text out .buffer)
   unfolding decoding
   judged-right = go (fault text) refl
     where
       room : (t : Bool) → leb (length (decode text)) (length out) ≡ t → strict text ≡ true
           → let d = cond t (decodedTo (Decoded.Bytes (length (decode text))) (laid (decode text) out)) (decodedTo Decoded.Short (cleared out)) in
-          Judged text out (d .answer) (d .buffer)
+          Answered text out (d .answer) (d .buffer)
       room true e h = written h (leb-true _ _ e)
       room false e h = short h (leb-false _ _ e)
 
-      go : (f : Option ℕ) → fault text ≡ f → Judged text out (judged f (decode text) out .answer) (judged f (decode text) out .buffer)
+      go : (f : Option ℕ) → fault text ≡ f → Answered text out (judged f (decode text) out .answer) (judged f (decode text) out .buffer)
       go (some place) e = faulty (faulty-strict text e) e
       go none e = room (leb (length (decode text)) (length out)) refl (strict-faultless text .1 e)
 
   -- what the contract of `decode` says, case by case
-  pub judge : {r : Decoded} {buffer : List ℕ} → decodedTo r buffer ≡ decoding text out → Judged text out r buffer
-  judge e = subst (λ (d : Decoding). Judged text out (d .answer) (d .buffer)) (sym e) judged-right
+  pub judge : {r : Decoded} {buffer : List ℕ} → decodedTo r buffer ≡ decoding text out → Answered text out r buffer
+  judge e = subst (λ (d : Decoding). Answered text out (d .answer) (d .buffer)) (sym e) judged-right
 
   pub accepted : strict text ≡ true → length (decode text) ≤ length out
       → decodedTo (Decoded.Bytes (length (decode text))) (laid (decode text) out) ≡ decoding text out

@@ -154,16 +154,7 @@ pub none-right : (qs rs : List Rule) → NoneOf (qs ++ rs) → NoneOf rs
 none-right [] rs a = a
 none-right ((n on P) ∷ qs) rs a = none-right qs rs (a .1)
 
--- For the code's proofs: where none of the first conditions holds, the answer is the later tests'; ..
-pub first-past : {qs : List Rule} {us : List Test} (ts : List Test) → Agree qs us → NoneOf qs → first (us ++ ts) ≡ first ts
-first-past ts done n = refl
-first-past ts (_by_ {n = m} {P = P} {b = b} {rs = rs} {ts = us} d a) n = go b d (λ p. first-past ts (a p) (n .1))
-  where
-    go : (b : Bool) → Decides P b → ((P → ⊥) → first (us ++ ts) ≡ first ts) → first ((m when b) ∷ (us ++ ts)) ≡ first ts
-    go true (holds p) ih = absurd (n .0 p)
-    go false (fails p) ih = ih p
-
--- .. where one of the first tests refuses, the later ones aren't asked
+-- For the code's proofs: where one of the first tests refuses, the later ones aren't asked; ..
 pub first-within : (us ts : List Test) → (first us ≡ 0 → ⊥) → first (us ++ ts) ≡ first us
 first-within [] ts h = absurd (h refl)
 first-within ((n when true) ∷ us) ts h = refl
@@ -174,16 +165,20 @@ all-pass [] u e = tt
 all-pass ((n when true) ∷ ts) u e = absurd (false≢true (sym (ap (λ (b : Bool). not b && numbered ts) (eq-eqb n 0 e)) ∙ u))
 all-pass ((n when false) ∷ ts) u e = (refl, all-pass ts (both (not (eqb n 0)) (numbered ts) u .1) e)
 
-pub first-next : (n : ℕ) {b : Bool} (ts : List Test) → b ≡ false → first ((n when b) ∷ ts) ≡ first ts
+first-next : (n : ℕ) {b : Bool} (ts : List Test) → b ≡ false → first ((n when b) ∷ ts) ≡ first ts
 first-next n ts e = rw e
 
-past : (us ts : List Test) → Pass us → first (us ++ ts) ≡ first ts
-past [] ts p = refl
-past ((n when b) ∷ us) ts p = first-next n (us ++ ts) (p .0) ∙ past us ts (p .1)
+pub first-passed : (us ts : List Test) → Pass us → first (us ++ ts) ≡ first ts
+first-passed [] ts p = refl
+first-passed ((n when b) ∷ us) ts p = first-next n (us ++ ts) (p .0) ∙ first-passed us ts (p .1)
+
+pub pass-left : (us ts : List Test) → Pass (us ++ ts) → Pass us
+pass-left [] ts p = tt
+pass-left ((n when b) ∷ us) ts p = (p .0, pass-left us ts (p .1))
 
 -- .. where none of them does, only the later ones are
 pub first-after : (us ts : List Test) → numbered us ≡ true → first us ≡ 0 → first (us ++ ts) ≡ first ts
-first-after us ts u e = past us ts (all-pass us u e)
+first-after us ts u e = first-passed us ts (all-pass us u e)
 
 -- A TEST BY ITS NUMBER: where all pass, the test under n is false
 pub passed : (ts : List Test) → Pass ts → (n : ℕ) → test ts n ≡ false

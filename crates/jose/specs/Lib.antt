@@ -1,2 +1,2 @@
--- The known members as the code holds them.
-pub mod Slots
+-- What the inner functions answer.
+pub mod Deciding

@@ -1,30 +1,38 @@
-// The header's known members and their rules: from a header's bytes and a key table to the key, the format and the raw texts that
-// the header decides, or the number of the refusal (RFC 7515 section 4 with the house rules; answers 2, 5 and 7 to 14).
-mod members; // members.rt: the known members, found in one walk over the top object
-mod kinds; // kinds.rt: rule 9, the kinds of the known members; the format
-mod critical; // critical.rt: rule 10, the names that `crit` lists
-mod keys; // keys.rt: rules 11 to 14, the algorithm, the key and what it allows; what is chosen
-
+// The rules on a header's known members: from a header's bytes and a key table to the key, the format and the raw texts that the header
+// decides, or the number of the refusal (RFC 7515 section 4 with the house rules; answers 2, 5 and 7 to 14).
 ghost use mathlib.Core.Path.{_≡_};
 ghost use mathlib.Core.Bool.{false};
-ghost use Rattle.keytable_rules.specs.Table.{badTable, keys};
+ghost use Rattle.keytable_rules.specs.Table.{badTable};
+ghost use Rattle.jose_rules.specs.Rules.{termsOf};
+ghost use Rattle.jose_rules.specs.Facts.{noFacts};
 ghost use Rattle.jose_rules.specs.Decision.{decisionWith, decision};
-ghost use Rattle.jose_rules.specs.HeaderTests.{reading};
-ghost use Rattle.jose_rules.specs.Only.{absent};
-ghost use Rattle.jose.specs.Slots.{Located, membersRefused};
-ghost use Rattle.jose_rules.specs.Tests.{format};
-use crate::critical::critical_broken;
-use crate::keys::choose;
-use crate::keys::other_algorithm;
-use crate::kinds::format_of;
-use crate::kinds::missing_or_wrong;
-use crate::members::Known;
-use crate::members::known_members;
-use decimal::Integer;
+ghost use Rattle.jose.specs.Deciding.{rawOf, decisionOf};
+use answers::BAD_TABLE;
+use answers::DONE;
+use answers::HEADER_TOO_LONG;
+use jose_facts::Known;
+use jose_facts::facts_of;
+use jose_facts::known_from;
+use jose_judging::judge;
+use jose_rules::Alg;
+use jose_rules::Choice;
+use jose_rules::Crit;
 use jose_rules::Decision;
+use jose_rules::Facts;
+use jose_rules::Fmt;
+use jose_rules::Kid;
+use jose_rules::Part;
+use jose_rules::Text;
+use jose_rules::Verdict;
 use json_check::check_text;
+use json_members::Slot;
+use json_members::size;
+use json_members::top_members;
 use json_rules::DEEPEST;
 use json_rules::LONGEST;
+
+// The depth that is left for the values of the top object's members.
+const INSIDE: usize = DEEPEST - 1;
 
 // What the header decides with the keys of the table. Rules out that a bad table is answered as a bad header, and that a `kid` that
 // no key has falls back to the only key.
@@ -33,49 +41,77 @@ pub fn decide(header: &[u8], table: &[u8]) -> Decision
 {
     if keytable::good(table) {
         if LONGEST < header.len() {
-            return Decision::Refused(5);
+            return Decision::Refused(HEADER_TOO_LONG);
         }
         return decide_with(header, table);
     }
-    Decision::Refused(2)
+    Decision::Refused(BAD_TABLE)
 }
 
-// Rules 7 to 14, of a header of any length, with a table that is known to be in order. Rules out that `alg` chooses though the key's bit is 0, that a header with a
-// name twice is let through, that an unknown name in `crit` is ignored, and that a `fmt` that `crit` doesn't list chooses the format.
+// Rules 7 to 14, of a header of any length, with a table that is known to be in order. Rules out that `alg` chooses though the key's bit
+// is 0, that a header with a name twice is let through, that an unknown name in `crit` is ignored, and that a `fmt` that `crit` doesn't
+// list chooses the format.
 pub fn decide_with(header: &[u8], table: &[u8]) -> Decision
     requires { ⌜ badTable (now table) ≡ false ⌝ }
-    ensures { λ r. ⌜ r ≡ decisionWith (now (header .entry)) (keys (now (table .entry))) ⌝ }
+    ensures { λ r. ⌜ r ≡ decisionWith (now (header .entry)) (termsOf (now (table .entry))) ⌝ }
 {
     let n = check_text(header, DEEPEST);
-    if n != 0 {
+    if n != DONE {
         return Decision::Refused(n);
     }
-    let known = known_members(header);
-    let fmt = known.fmt;
-    let Integer::Is(number) = format_of(header, fmt) else {
-        return Decision::Refused(9);
-    };
-    let r = members_refused(header, known);
-    if r != 0 {
-        return Decision::Refused(r);
-    }
-    choose(header, table, known, number)
+    let from = top_members(header);
+    let known = known_from(header, from, INSIDE);
+    let facts = facts_of(header, known, INSIDE, table);
+    let verdict = judge(facts, no_facts(), table);
+    decided(verdict, known)
 }
 
-// Rules 9 to 11, of a header whose format is an integer: the first that refuses it, or 0.
-fn members_refused(header: &[u8], known: Known) -> u8
-    requires { ⌜ Located (now header) known × (absent (format (reading (now header))) ≡ false) ⌝ }
-    ensures { λ r. ⌜ r ≡ membersRefused (reading (now (header .entry))) ⌝ }
+// What a header of no members says.
+fn no_facts() -> Facts
+    ensures { λ r. ⌜ r ≡ noFacts ⌝ }
 {
-    if missing_or_wrong(header, known) {
-        return 9;
+    Facts {
+        alg: Alg::Absent,
+        kid: Kid::Absent,
+        typ: Text::Absent,
+        cty: Text::Absent,
+        crit: Crit::Absent,
+        fmt: Fmt::Absent,
     }
-    if critical_broken(header, known) {
-        return 10;
+}
+
+// The verdict, with the raw texts of `typ` and `cty`.
+fn decided(verdict: Verdict, known: Known) -> Decision
+    ensures { λ r. ⌜ r ≡ decisionOf verdict known ⌝ }
+{
+    match verdict {
+        Verdict::Refused(number) => Decision::Refused(number),
+        Verdict::Takes(key_index, kid_present, format) => {
+            let typ = known.typ;
+            let cty = known.cty;
+            Decision::Chosen(Choice {
+                key_index,
+                kid_present,
+                format,
+                typ: raw(typ),
+                cty: raw(cty),
+            })
+        }
     }
-    let alg = known.alg;
-    if other_algorithm(header, alg) {
-        return 11;
+}
+
+// The raw text of a member: its start and its length, 0 and 0 where there is no such member.
+fn raw(slot: Slot) -> Part
+    ensures { λ r. ⌜ r ≡ rawOf slot ⌝ }
+{
+    let Slot::Is(_, place) = slot else {
+        return Part {
+            start: 0,
+            length: 0,
+        };
+    };
+    Part {
+        start: place.start,
+        length: size(place),
     }
-    0
 }

@@ -1,91 +1,101 @@
 -- What a decision says: the number is that of the first rule that refuses; where none does, the choice is the header's, and its key is one of the keys.
 use mathlib.Core.Path.{_≡_, refl, sym, _∙_}
-use mathlib.Core.Bool.{false, cond, true≢false}
-use mathlib.Core.List.{List, _∷_}
+use mathlib.Core.Bool.{false, true≢false}
+use mathlib.Core.List.{List}
 use mathlib.Core.Option.{Option, none, some}
-use Prim.Native.Nat.{ℕ, zero, suc, _<_}
+use Prim.Native.Nat.{ℕ, zero, suc, _≤_, _<_}
 use native.Mathlib.Omega.{arith}
 use lib.ListN.{length}
-use Rattle.common.specs.First.{_when_, first}
-use Rattle.common.specs.FirstLaws.{all-pass, first-next}
-use Rattle.json_grammar.specs.Value.{Value, Members}
+use borrow.Author.Tests.{ltb-false}
+use Rattle.common.specs.First.{first}
+use Rattle.common.specs.FirstLaws.{all-pass, passed, pass-left, first-passed}
+use Rattle.common.specs.Options.{absent, orElse}
+use Rattle.json_grammar_rules.specs.Value.{Value, Members}
+use Rattle.json_rules.specs.Rules.{longest}
 use Rattle.json_characters.specs.Utf8.{utf8}
 use Rattle.keytable_rules.specs.declared.Found.{Found}
 use Rattle.keytable_rules.specs.declared.Found.the-variants.{At, Nothing}
 use Rattle.keytable_rules.specs.Key.{Key, find, only}
 use Rattle.keytable_rules.specs.KeyLaws.{found, only-found}
 use Rattle.keytable_rules.specs.Table.{badTable, keys}
+use Rattle.jose_rules.specs.declared.Kid.{Kid}
 use Rattle.jose_rules.specs.declared.Choice.{Choice}
 use Rattle.jose_rules.specs.declared.Decision.the-variants.{Refused, Chosen}
 use Rattle.jose_rules.specs.Names.{kid}
 use Rattle.jose_rules.specs.Members.{string}
-use Rattle.jose_rules.specs.Only.{absent, bind, orElse}
-use Rattle.jose_rules.specs.Header.{HeaderChoice}
-use Rattle.jose_rules.specs.HeaderTests.{reading, headingTests, headerChoice}
-use Rattle.jose_rules.specs.Tests.{lookup, indexOf, chosen, choice}
-use Rattle.jose_rules.specs.Decision.{choiceOf, decided, decisionTests, decisionWith, decision}
+use Rattle.jose_rules.specs.Rules.{Terms, termsOf}
+use Rattle.jose_rules.specs.Facts.{lookup, pick, keyBy, kidFact, factsOf, indexOf, chosenKey, choiceBy}
+use Rattle.jose_rules.specs.HeaderTests.{headerFacts, joseTests, headerChoice}
+use Rattle.jose_rules.specs.Decision.{decisionBy, openingTests, decidingTests, decisionWith, decision}
 
 -- A NUMBER AND A CHOICE, apart again
 
-pub refused-is : (k : ℕ) (c : HeaderChoice) {n : ℕ} → Refused n ≡ decided k c → (n ≡ k) × (n ≡ 0 → ⊥)
+pub refused-is : (k : ℕ) (c : Choice) {n : ℕ} → Refused n ≡ decisionBy k c → (n ≡ k) × (n ≡ 0 → ⊥)
 refused-is zero c e = absurd (let z : _≡_ {A = ℕ} 0 1 = cc in omega arith)
 refused-is (suc k) c {n} e = let f : n ≡ suc k = cc in (f, λ z. omega arith)
 
-pub chosen-is : (k : ℕ) (c : HeaderChoice) {d : Choice} → Chosen d ≡ decided k c → (k ≡ 0) × (d ≡ choiceOf c)
+pub chosen-is : (k : ℕ) (c : Choice) {d : Choice} → Chosen d ≡ decisionBy k c → (k ≡ 0) × (d ≡ c)
 chosen-is zero c e = (refl, cc)
 chosen-is (suc k) c e = absurd (let z : _≡_ {A = ℕ} 0 1 = cc in omega arith)
 
 -- THE KEY
 
+index-at : (f : Found) {i : ℕ} → some i ≡ indexOf f → f ≡ At i
+index-at (At j) e = cc
+index-at Nothing e = absurd (let z : _≡_ {A = ℕ} 0 1 = cc in omega arith)
+
 -- the chosen key is one of the keys
-pub chosen-within : (ms : Members) (ks : List Key) {i : ℕ} → some i ≡ chosen ms ks → i < length ks
-unfolding chosen
+pub chosen-within : (ms : Members) (ks : List Key) {i : ℕ} → some i ≡ chosenKey (factsOf ms ks .kid) ks → i < length ks
+unfolding factsOf kidFact
 chosen-within ms ks {i} e = go (lookup kid ms) e
   where
-    at : (f : Found) → some i ≡ indexOf f → f ≡ At i
-    at (At j) e = cc
-    at Nothing e = absurd (let z : _≡_ {A = ℕ} 0 1 = cc in omega arith)
+    never : {B : Type 0} → some i ≡ none → B
+    never e = absurd (let z : _≡_ {A = ℕ} 0 1 = cc in omega arith)
 
-    named : (o : Option (List ℕ)) → some i ≡ bind o (λ s. indexOf (find (utf8 s) ks)) → i < length ks
-    named none e = absurd (let z : _≡_ {A = ℕ} 0 1 = cc in omega arith)
-    named (some s) e = found (at (find (utf8 s) ks) e) .within
+    by-id : (f : Found) → ((j : ℕ) → f ≡ At j → j < length ks) → some i ≡ chosenKey (keyBy f) ks → i < length ks
+    by-id (At j) h e = h i (let x : j ≡ i = cc in rw x)
+    by-id Nothing h e = never e
 
-    go : (o : Option Value) → some i ≡ cond (absent o) (indexOf (only ks)) (bind (bind o string) (λ s. indexOf (find (utf8 s) ks))) → i < length ks
-    go none e = let o = only-found ks (at (only ks) e) in omega arith
-    go (some v) e = named (string v) e
+    said : (o : Option (List ℕ)) → some i ≡ chosenKey (pick Kid.Absent Kid.Wrong (λ s. keyBy (find (utf8 s) ks)) o) ks → i < length ks
+    said none e = never e
+    said (some s) e = by-id (find (utf8 s) ks) (λ j f. found f .within) e
 
-module _ (h : List ℕ) (ks : List Key) where
-  pub choice-within : first (headingTests h ks) ≡ 0 → headerChoice h ks .choice .index < length ks
-  unfolding headerChoice choice
-  choice-within e = go (chosen (reading h) ks) refl (all-pass (headingTests h ks) refl e .1 .1 .1 .1 .1 .0)
+    go : (o : Option Value) → some i ≡ chosenKey (kidFact ks o) ks → i < length ks
+    go none e = let o = only-found ks (index-at (only ks) e) in omega arith
+    go (some v) e = said (string v) e
+
+module _ (h : List ℕ) (q : Terms) where
+  pub choice-within : first (joseTests h q) ≡ 0 → headerChoice h (q .keys) .«key_index» < length (q .keys)
+  unfolding headerChoice choiceBy
+  choice-within e = go (chosenKey (headerFacts h (q .keys) .kid) (q .keys)) refl (passed (joseTests h q) (all-pass (joseTests h q) refl e) 12)
     where
-      go : (o : Option ℕ) → chosen (reading h) ks ≡ o → absent o ≡ false → orElse (chosen (reading h) ks) 0 < length ks
+      go : (o : Option ℕ) → chosenKey (headerFacts h (q .keys) .kid) (q .keys) ≡ o → absent o ≡ false → orElse (chosenKey (headerFacts h (q .keys) .kid) (q .keys)) 0 < length (q .keys)
       go none e f = absurd (true≢false f)
-      go (some i) e f = rw e (chosen-within (reading h) ks (sym e))
+      go (some i) e f = rw e (chosen-within _ (q .keys) (sym e))
 
   -- for callers of `decide_with`
-  pub with-refused : {n : ℕ} → Refused n ≡ decisionWith h ks → (n ≡ first (headingTests h ks)) × (n ≡ 0 → ⊥)
+  pub with-refused : {n : ℕ} → Refused n ≡ decisionWith h q → (n ≡ first (joseTests h q)) × (n ≡ 0 → ⊥)
   unfolding decisionWith
-  with-refused e = refused-is (first (headingTests h ks)) (headerChoice h ks) e
+  with-refused e = refused-is (first (joseTests h q)) (headerChoice h (q .keys)) e
 
-  pub with-chosen : {d : Choice} → Chosen d ≡ decisionWith h ks → (first (headingTests h ks) ≡ 0) × (d ≡ choiceOf (headerChoice h ks)) × (d .index < length ks)
+  pub with-chosen : {d : Choice} → Chosen d ≡ decisionWith h q → (first (joseTests h q) ≡ 0) × (d ≡ headerChoice h (q .keys)) × (d .«key_index» < length (q .keys))
   unfolding decisionWith
   with-chosen {d} e =
-      let c = chosen-is (first (headingTests h ks)) (headerChoice h ks) e in
+      let c = chosen-is (first (joseTests h q)) (headerChoice h (q .keys)) e in
       (c .0, c .1, rw (c .1) (choice-within (c .0)))
 
 -- for callers of `decide`
 module _ (h T : List ℕ) where
-  pub refused : {n : ℕ} → Refused n ≡ decision h T → (n ≡ first (2 when badTable T ∷ decisionTests h (keys T))) × (n ≡ 0 → ⊥)
+  pub refused : {n : ℕ} → Refused n ≡ decision h T → (n ≡ first (decidingTests h T)) × (n ≡ 0 → ⊥)
   unfolding decision
-  refused e = refused-is (first (2 when badTable T ∷ decisionTests h (keys T))) (headerChoice h (keys T)) e
+  refused e = refused-is (first (decidingTests h T)) (headerChoice h (keys T)) e
 
   pub chosen-by : {d : Choice} → Chosen d ≡ decision h T
-      → (badTable T ≡ false) × (first (decisionTests h (keys T)) ≡ 0) × (d ≡ choiceOf (headerChoice h (keys T))) × (d .index < length (keys T))
+      → (badTable T ≡ false) × (length h ≤ longest) × (first (decidingTests h T) ≡ 0) × (d ≡ headerChoice h (keys T)) × (d .«key_index» < length (keys T))
   unfolding decision
   chosen-by {d} e =
-      let c = chosen-is (first (2 when badTable T ∷ decisionTests h (keys T))) (headerChoice h (keys T)) e in
-      let p = all-pass (2 when badTable T ∷ decisionTests h (keys T)) refl (c .0) in
-      let z : first (decisionTests h (keys T)) ≡ 0 = sym (first-next 2 (decisionTests h (keys T)) (p .0)) ∙ c .0 in
-      let within = choice-within h (keys T) (sym (first-next 5 (headingTests h (keys T)) (p .1 .0)) ∙ z) in
-      (p .0, z, c .1, rw (c .1) within)
+      let c = chosen-is (first (decidingTests h T)) (headerChoice h (keys T)) e in
+      let all = all-pass (decidingTests h T) refl (c .0) in
+      let pass = passed (decidingTests h T) all in
+      let rest = sym (first-passed (openingTests h T) (joseTests h (termsOf T)) (pass-left (openingTests h T) (joseTests h (termsOf T)) all)) ∙ c .0 in
+      (pass 2, ltb-false _ _ (pass 5), c .0, c .1, rw (c .1) (choice-within h (termsOf T) rest))

@@ -6,7 +6,7 @@ use Prim.Native.Nat.{ℕ}
 use Prim.Native.String.{String}
 use Rattle.common.specs.First.{first}
 use Rattle.common.specs.Ranges.{within, isDigit}
-use Rattle.json_grammar.specs.Value.{Value, Values, Members, stringV, numberV, trueV, arrayV, objectV, vnil, vcons, mnil, mcons, among, repeated}
+use Rattle.json_grammar_rules.specs.Value.{Value, Values, Members, stringV, numberV, trueV, arrayV, objectV, vnil, vcons, mnil, mcons}
 use Rattle.json_characters.specs.Utf8.{utf8, octets}
 use Rattle.decimal.specs.Integer.{integerOf, allDigits, after}
 use Rattle.common.specs.Same.{same}
@@ -14,7 +14,8 @@ use Rattle.keytable_rules.specs.Key.{Key, find, only, allowsHS256, allowsFormat
 use Rattle.common.specs.Ascii.{ascii}
 use Rattle.jose_rules.specs.Names.{alg, kid, typ, cty, crit, fmt, HS256}
 use Rattle.jose_rules.specs.Members.{stringsIn}
-use Rattle.jose_rules.specs.Tests.{lookup, missingOrWrong, anyOf, listed, criticalBroken, chosen, format, lacking, knownTests, choice}
+use Rattle.jose_rules.specs.Header.{nowhere}
+use Rattle.jose_rules.specs.Facts.{lookup, namesFrom, algFact, kidFact, textFact, critFact, fmtFact, factsOf, noFacts, lacking, missingOrWrong, criticalBroken, choosingTests, choiceBy}
 
 -- "name": value, before the members ms
 abbrev pub _∶_then_ : String → Value → Members → Members
@@ -45,10 +46,10 @@ abbrev pub none1 : Key
 none1 = record { id = ascii "cellar 3"; secret = []; algorithms = 0; formats = 0x01 }
 
 abbrev pub Answers : Members → List Key → ℕ → Type 0
-Answers ms ks n = first (knownTests ms ks) ≡ n
+Answers ms ks n = first (choosingTests (factsOf ms ks) noFacts ks) ≡ n
 
 abbrev pub Gives : Members → List Key → ℕ → Bool → ℕ → Type 0
-Gives ms ks i named f = Answers ms ks 0 × (choice ms ks ≡ record { index = i; named = named; format = f })
+Gives ms ks i kid f = Answers ms ks 0 × (choiceBy (factsOf ms ks) ks nowhere nowhere ≡ record { «key_index» = i; «kid_present» = kid; format = f; typ = nowhere; cty = nowhere })
 
 pub examples :
     Gives ("alg" ∶ text "HS256" then mnil) (hs1 ∷ []) 0 false 1
@@ -82,8 +83,8 @@ pub examples :
     × Answers ("alg" ∶ text "HS256" then mnil) (hs28 ∷ []) 14
     × Answers ("alg" ∶ text "HS256" then "crit" ∶ array ("fmt" ∷ []) then "fmt" ∶ number "-0" then mnil) (hs1 ∷ []) 14
     × Answers ("alg" ∶ text "HS256" then "crit" ∶ array ("fmt" ∷ []) then "fmt" ∶ number "9" then mnil) (hs1 ∷ []) 14
-unfolding ascii alg kid typ cty crit fmt HS256 among repeated utf8 octets within isDigit integerOf allDigits after same find only allowsHS256 allowsFormat
-    stringsIn lookup missingOrWrong anyOf listed criticalBroken chosen format lacking choice
+unfolding ascii alg kid typ cty crit fmt HS256 utf8 octets within isDigit integerOf allDigits after same find only allowsHS256 allowsFormat
+    stringsIn lookup namesFrom algFact kidFact textFact critFact fmtFact factsOf missingOrWrong criticalBroken lacking choiceBy
 examples = (
   (refl, refl),
   (refl, refl),

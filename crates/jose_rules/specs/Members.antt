@@ -5,11 +5,11 @@ use mathlib.Core.List.{List, [], _∷_}
 use mathlib.Core.Option.{Option, none, some}
 use Prim.Native.Nat.{ℕ}
 use lib.IntN.{ℤ}
-use Rattle.json_grammar.specs.Value.{Value, Values, Members, stringV, numberV, trueV, falseV, nullV, arrayV, objectV, vnil, vcons, mnil, mcons}
+use Rattle.json_grammar_rules.specs.Value.{Value, Values, Members, stringV, numberV, trueV, falseV, nullV, arrayV, objectV, vnil, vcons, mnil, mcons}
 use Rattle.decimal.specs.Integer.{integerOf}
 use Rattle.decimal.specs.declared.Integer.{Integer}
 use Rattle.decimal.specs.declared.Integer.the-variants.{Is, No}
-use Rattle.jose_rules.specs.Only.{bind}
+use Rattle.common.specs.Options.{bind}
 
 -- a member with the name n has the value v
 abbrev pub Has : List ℕ → Value → Members → Type 0
@@ -20,9 +20,9 @@ Has n v (mcons m w ms) = ((m ≡ n) × (w ≡ v)) ⊎ Has n v ms
 abbrev pub Lacks : List ℕ → Members → Type 0
 Lacks n ms = (v : Value) → Has n v ms → ⊥
 
--- A kind: what a value of it says; none for any other value.
-abbrev pub Kind : Type 0 → Type 0
-Kind A = Value → Option A
+-- A meaning: what a value of its kind says; none for any other value.
+abbrev pub Meaning : Type 0 → Type 0
+Meaning A = Value → Option A
 
 -- of a string, a number, an array, and any other value
 abbrev pub byKind : {B : Type 0} → (List ℕ → B) → (List ℕ → B) → (Values → B) → B → Value → B
@@ -35,7 +35,7 @@ byKind string number array other nullV = other
 byKind string number array other (objectV ms) = other
 
 -- a string says its code points
-abbrev pub string : Kind (List ℕ)
+abbrev pub string : Meaning (List ℕ)
 string v = byKind some (λ cs. none) (λ vs. none) none v
 
 -- "an array in which everything is a string" says them in order
@@ -43,7 +43,7 @@ unfoldable pub stringsIn : Values → Option (List (List ℕ))
 stringsIn vnil = some []
 stringsIn (vcons v vs) = bind (string v) (λ s. bind (stringsIn vs) (λ ns. some (s ∷ ns)))
 
-abbrev pub strings : Kind (List (List ℕ))
+abbrev pub strings : Meaning (List (List ℕ))
 strings v = byKind (λ s. none) (λ cs. none) stringsIn none v
 
 -- "a number from -2^63 to 2^63 - 1, spelled without `.`, `e` or `E`" says its value
@@ -51,15 +51,15 @@ abbrev pub valueOf : Integer → Option ℤ
 valueOf (Is z) = some z
 valueOf No = none
 
-abbrev pub integer : Kind ℤ
+abbrev pub integer : Meaning ℤ
 integer v = byKind (λ s. none) (λ cs. valueOf (integerOf cs)) (λ vs. none) none v
 
-module _ {A : Type 0} (k : Kind A) (n : List ℕ) (ms : Members) where
-  -- the member n is there, is of the kind k, and says a
+module _ {A : Type 0} (k : Meaning A) (n : List ℕ) (ms : Members) where
+  -- the member n is there, has the meaning k, and says a
   abbrev pub Says : A → Type 0
   Says a = (v : Value) × Has n v ms × (k v ≡ some a)
 
-  -- the member n is there, and isn't of the kind k
+  -- the member n is there, and isn't of the kind that k asks for
   abbrev pub Wrong : Type 0
   Wrong = (v : Value) × Has n v ms × (k v ≡ none)
 

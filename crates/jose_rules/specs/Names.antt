@@ -21,8 +21,12 @@ crit = ascii "crit"
 unfoldable pub fmt : List ℕ
 fmt = ascii "fmt"
 
+-- the names that `crit` may list, and must list where such a member is there
+abbrev pub extensions : List (List ℕ)
+extensions = fmt ∷ []
+
 abbrev pub knownNames : List (List ℕ)
-knownNames = alg ∷ kid ∷ typ ∷ cty ∷ crit ∷ fmt ∷ []
+knownNames = alg ∷ kid ∷ typ ∷ cty ∷ crit ∷ extensions
 
 unfoldable pub HS256 : List ℕ
 HS256 = ascii "HS256"

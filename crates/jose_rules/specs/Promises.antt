@@ -3,33 +3,24 @@
 use mathlib.Core.Path.{_≡_, refl, sym, ap, _∙_}
 use mathlib.Core.Logic.{_↔_}
 use mathlib.Core.Bool.{true}
-use mathlib.Core.List.{List, _∷_}
-use Prim.Native.Nat.{ℕ, zero, suc, _<_}
-use lib.ListN.{length}
-use Rattle.common.specs.First.{Rule, _on_, Test, _when_, first, among, numbers, condition, earlier, NoneOf, Agree, _by_}
-use Rattle.common.specs.FirstLaws.{first-stands, none-stands, decides-lt}
+use mathlib.Core.List.{List}
+use Prim.Native.Nat.{ℕ, zero, suc}
+use Rattle.common.specs.First.{first, among, numbers, condition, earlier, NoneOf, Agree, done, _by_}
+use Rattle.common.specs.FirstLaws.{first-stands, none-stands, not-on, agree-append, decides-lt}
 use Rattle.common.specs.Decided.{test-false}
-use Rattle.json_rules.specs.Rules.{longest}
 use Rattle.keytable_rules.specs.Key.{Distinct}
-use Rattle.keytable_rules.specs.Table.{Wellformed, badTable, keys}
+use Rattle.keytable_rules.specs.Table.{Wellformed, keys}
 use Rattle.keytable_rules.specs.TableLaws.{decides-bad}
 use Rattle.keytable_rules.specs.GoodKeys.{keys-distinct}
+use Rattle.jose_rules.specs.declared.Choice.{Choice}
 use Rattle.jose_rules.specs.declared.Decision.{Decision}
 use Rattle.jose_rules.specs.declared.Decision.the-variants.{Refused, Chosen}
-use Rattle.jose_rules.specs.Header.{heading, HeaderChoice, HeaderChooses}
+use Rattle.jose_rules.specs.Rules.{termsOf}
+use Rattle.jose_rules.specs.Header.{HeaderChooses}
+use Rattle.jose_rules.specs.Deciding.{openingRules, deciding}
 use Rattle.jose_rules.specs.HeaderTests.{headerChoice}
-use Rattle.jose_rules.specs.HeaderLaws.{heading-agree, header-chooses-one}
-use Rattle.jose_rules.specs.Decision.{choiceOf, decided, decisionTests, decision}
-
--- the rules, in their order
-abbrev pub deciding : List ℕ → List ℕ → List Rule
-deciding h T =
-    -- "the table is bad"
-    2 on (Wellformed T → ⊥)
-    -- "the header has more than 1,024 bytes"
-    ∷ 5 on (longest < length h)
-    -- 7 to 14
-    ∷ heading h (keys T)
+use Rattle.jose_rules.specs.HeaderLaws.{jose-agree, header-chooses-one}
+use Rattle.jose_rules.specs.Decision.{decisionBy, decidingTests, decision}
 
 -- the specification's number of a decision
 abbrev pub answerOf : Decision → ℕ
@@ -41,13 +32,11 @@ answerOf (Chosen c) = 0
 pub distinct : (T : List ℕ) → ((Wellformed T → ⊥) → ⊥) → Distinct (keys T)
 distinct T w = keys-distinct T (test-false (decides-bad T) w)
 
-abbrev decidingTests : List ℕ → List ℕ → List Test
-decidingTests h T = 2 when badTable T ∷ decisionTests h (keys T)
-
 pub deciding-agree : (h T : List ℕ) → Agree (deciding h T) (decidingTests h T)
-deciding-agree h T = decides-bad T by λ table. decides-lt _ _ by λ _. heading-agree h (keys T) (distinct T table)
+deciding-agree h T =
+    agree-append (decides-bad T by λ _. decides-lt _ _ by λ _. done) (λ n. jose-agree h (termsOf T) (distinct T (not-on (openingRules h T) n 2)))
 
-decided-number : (n : ℕ) (c : HeaderChoice) → answerOf (decided n c) ≡ n
+decided-number : (n : ℕ) (c : Choice) → answerOf (decisionBy n c) ≡ n
 decided-number zero c = refl
 decided-number (suc n) c = refl
 
@@ -66,8 +55,8 @@ module _ (h T : List ℕ) where
   decision-none = rw decision-number (none-stands (deciding-agree h T) refl)
 
   -- .. and then what is chosen is what the header decides
-  pub decision-chooses : NoneOf (deciding h T) → (c : HeaderChoice) → HeaderChooses h (keys T) c → decision h T ≡ Chosen (choiceOf c)
+  pub decision-chooses : NoneOf (deciding h T) → (c : Choice) → HeaderChooses h (termsOf T) c → decision h T ≡ Chosen c
   unfolding decision
   decision-chooses n c w =
-      ap (λ (k : ℕ). decided k (headerChoice h (keys T))) (none-stands (deciding-agree h T) refl .1 n)
-      ∙ ap (λ (x : HeaderChoice). Chosen (choiceOf x)) (sym (header-chooses-one h (keys T) (distinct T (n .0)) c w))
+      ap (λ (k : ℕ). decisionBy k (headerChoice h (keys T))) (none-stands (deciding-agree h T) refl .1 n)
+      ∙ ap Chosen (sym (header-chooses-one h (termsOf T) (distinct T (not-on (deciding h T) n 2)) c w))

@@ -1,19 +1,30 @@
--- The conditions of answers 9 to 14, over a reading's members and a list of keys, each in the specification's words under its number.
+-- The conditions of answers 9 to 14, over a reading's members and what it is judged by, each in the specification's words under its number.
+-- ms: all the members that are judged; us: those of them that stand in an unprotected header, of which a compact token has none.
 use mathlib.Core.Path.{_≡_}
 use mathlib.Core.Logic.{_⊎_}
-use mathlib.Core.Bool.{Bool, false}
-use mathlib.Core.List.{List, [], _∷_}
+use mathlib.Core.Bool.{false}
+use mathlib.Core.List.{List, [], _∷_, _++_}
 use Prim.Native.Nat.{ℕ}
 use lib.IntN.{ℤ, pos, natAbs}
 use lib.Signed.{_<ℤ_}
 use lib.ListN.{length}
 use Rattle.common.specs.First.{Rule, _on_, Decides}
-use Rattle.json_grammar.specs.Value.{Value, Members}
-use Rattle.json_grammar.specs.Twice.{Repeated}
+use Rattle.json_grammar_rules.specs.Value.{Value, Members}
+use Rattle.json_grammar_rules.specs.Twice.{Repeated}
 use Rattle.json_characters.specs.Utf8.{utf8}
 use Rattle.keytable_rules.specs.Key.{Key, key, Named, allowsHS256, allowsFormat}
-use Rattle.jose_rules.specs.Names.{alg, kid, typ, cty, crit, fmt, HS256}
+use Rattle.keytable_rules.specs.Table.{keys}
+use Rattle.jose_rules.specs.declared.Choice.{Choice}
+use Rattle.jose_rules.specs.Names.{alg, kid, typ, cty, crit, fmt, extensions, HS256}
 use Rattle.jose_rules.specs.Members.{Has, Lacks, string, strings, integer, Says, Wrong, Some}
+
+-- What a reading is judged by: the table's keys.
+pub record Terms : Type 0 where
+  pub keys : List Key
+
+-- those of the table T
+abbrev pub termsOf : List ℕ → Terms
+termsOf T = record { keys = keys T }
 
 -- 9: `alg` is missing, or a known member is of the wrong kind
 abbrev pub MissingOrWrong : Members → Type 0
@@ -32,15 +43,17 @@ abbrev pub Listed : List ℕ → Members → Type 0
 Listed n ms = (ns : List (List ℕ)) × Says strings crit ms ns × Some (λ m. m ≡ n) ns
 
 -- 10: "`crit` breaks its rules, or `fmt` stands there and isn't listed"
-abbrev pub CriticalBroken : Members → Type 0
-CriticalBroken ms =
+abbrev pub CriticalBroken : Members → Members → Type 0
+CriticalBroken ms us =
     ((ns : List (List ℕ)) × Says strings crit ms ns
     -- "`crit`, where it stands, lists at least one name, none of them twice,
     × ((ns ≡ []) ⊎ Repeated ns
     -- only names that this library understands (that is `fmt` alone), and only members that are there.
-    ⊎ Some (λ n. n ≡ fmt → ⊥) ns ⊎ Some (λ n. Lacks n ms) ns))
+    ⊎ Some (λ n. Some (λ e. n ≡ e) extensions → ⊥) ns ⊎ Some (λ n. Lacks n ms) ns))
     -- A `fmt` that no `crit` lists is a fault."
-    ⊎ ((v : Value) × Has fmt v ms × (Listed fmt ms → ⊥))
+    ⊎ Some (λ e. (v : Value) × Has e v ms × (Listed e ms → ⊥)) extensions
+    -- RFC 7515 section 4.1.11: it "MUST occur only within the JWS Protected Header"
+    ⊎ ((v : Value) × Has crit v us)
 
 -- key i is the chosen one
 abbrev pub Chosen : Members → List Key → ℕ → Type 0
@@ -50,6 +63,10 @@ Chosen ms ks i =
     -- A token without `kid` gets the key of a table that has just one, and of another table none."
     ⊎ (Lacks kid ms × ((length ks ≡ 1) × (i ≡ 0)))
 
+-- the chosen key is such that P
+abbrev pub ChosenKey : Members → List Key → (Key → Type 0) → Type 0
+ChosenKey ms ks P = (i : ℕ) × Chosen ms ks i × P (key ks i)
+
 -- "the payload's format; 1 if missing"
 abbrev pub Format : Members → ℤ → Type 0
 Format ms z = Says integer fmt ms z ⊎ (Lacks fmt ms × (z ≡ pos 1))
@@ -58,28 +75,31 @@ Format ms z = Says integer fmt ms z ⊎ (Lacks fmt ms × (z ≡ pos 1))
 abbrev pub Lacking : Key → ℤ → Type 0
 Lacking k z = (z <ℤ pos 1) ⊎ (pos 8 <ℤ z) ⊎ (allowsFormat k (natAbs z) ≡ false)
 
--- THE RULES in their order
-abbrev pub known : Members → List Key → List Rule
-known ms ks =
+-- THE RULES in their order: on the known members, ..
+abbrev pub knownRules : Members → Members → List Rule
+knownRules ms us =
     9 on MissingOrWrong ms
-    ∷ 10 on CriticalBroken ms
+    ∷ 10 on CriticalBroken ms us
     -- "`alg` is another algorithm"
     ∷ 11 on ((s : List ℕ) × Says string alg ms s × (s ≡ HS256 → ⊥))
-    -- "no key is found"
-    ∷ 12 on ((i : ℕ) → Chosen ms ks i → ⊥)
-    -- "the key doesn't allow HS256"
-    ∷ 13 on ((i : ℕ) × Chosen ms ks i × (allowsHS256 (key ks i) ≡ false))
-    -- "the key doesn't allow the format, or there is no such format"
-    ∷ 14 on ((i : ℕ) × Chosen ms ks i × ((z : ℤ) × Format ms z × Lacking (key ks i) z))
     ∷ []
 
--- What is chosen: the key's index from 0, whether `kid` was there, and the format.
-pub record Choice : Type 0 where
-  pub index : ℕ
-  pub named : Bool
-  pub format : ℕ
+-- .. and on the key
+abbrev pub keyRules : Members → Terms → List Rule
+keyRules ms q =
+    -- "no key is found"
+    12 on ((i : ℕ) → Chosen ms (q .keys) i → ⊥)
+    -- "the key doesn't allow HS256"
+    ∷ 13 on ChosenKey ms (q .keys) (λ k. allowsHS256 k ≡ false)
+    -- "the key doesn't allow the format, or there is no such format"
+    ∷ 14 on ChosenKey ms (q .keys) (λ k. (z : ℤ) × Format ms z × Lacking k z)
+    ∷ []
 
+abbrev pub choosing : Members → Members → Terms → List Rule
+choosing ms us q = knownRules ms us ++ keyRules ms q
+
+-- WHAT IS CHOSEN: the key's index from 0, whether `kid` is there, and the format
 pub record Chooses (ms : Members) (ks : List Key) (c : Choice) : Type 0 where
-  pub index-is : Chosen ms ks (c .index)
-  pub named-is : Decides ((v : Value) × Has kid v ms) (c .named)
+  pub key-is : Chosen ms ks (c .«key_index»)
+  pub kid-is : Decides ((v : Value) × Has kid v ms) (c .«kid_present»)
   pub format-is : Format ms (pos (c .format))

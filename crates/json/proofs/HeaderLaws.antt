@@ -6,13 +6,14 @@ use native.Mathlib.Omega.{arith}
 use lib.ListN.{length}
 use borrow.Author.Tests.{lt-ltb, le-ltb}
 use Rattle.common.specs.First.{first}
-use Rattle.json_grammar.specs.Value.{LMembers, item, named, lnil, lcons, plain}
-use Rattle.json_grammar.specs.Places.{Kind, kindOf, placed, member}
-use Rattle.json_grammar.specs.Reader.{Got, got, read}
+use Rattle.json_grammar_rules.specs.Value.{LMembers, item, named, lnil, lcons, plain}
+use Rattle.json_grammar_rules.specs.declared.Kind.{Kind}
+use Rattle.json_grammar_rules.specs.Places.{kindOf, placed, member}
+use Rattle.json_grammar_rules.specs.Reader.{Got, got, read}
 use Rattle.json_string.specs.declared.End.{End}
 use Rattle.json_string.specs.declared.End.the-variants.{At, Bad}
 use Rattle.json_members.specs.declared.steps.Entry.{Entry}
-use Rattle.json_members.specs.Members.{MembersAt, MembersFrom, TopMembers, EntryAt, kindIn}
+use Rattle.json_members.specs.Members.{MembersAt, MembersFrom, TopMembers, EntryAt}
 use Rattle.json_members.specs.MemberLaws.{no-members}
 use Rattle.json_members.specs.Steps.{topMembers}
 use Rattle.json_members.specs.StepLaws.{top-members}
@@ -42,7 +43,7 @@ tops h e t = top-members h (sym e ∙ t)
 -- MEMBER k
 
 module _ {s : List ℕ} {p : ℕ} (d : ℕ) {e : Entry} (en : EntryAt s p d e) where
-  pub pick-here : {k : ℕ} {r : Member} → k ≡ 0 → r ≡ shownBy (kindIn (e .kind)) (e .name) (e .value) → Picks s p d k r
+  pub pick-here : {k : ℕ} {r : Member} → k ≡ 0 → r ≡ shownBy (e .kind) (e .name) (e .value) → Picks s p d k r
   unfolding member placed answerFor
   pick-here {k} {r} z c = subst (λ (x : ℕ). Picks s p d x r) (sym z) (record { is = go })
     where

@@ -2,8 +2,8 @@
 use mathlib.Core.Path.{_≡_}
 use mathlib.Core.List.{List}
 use Prim.Native.Nat.{ℕ}
-use Rattle.json_grammar.specs.Value.{LMembers}
-use Rattle.json_grammar.specs.Places.{member}
+use Rattle.json_grammar_rules.specs.Value.{LMembers}
+use Rattle.json_grammar_rules.specs.Places.{member}
 use Rattle.json_members.specs.Members.{MembersAt}
 use Rattle.json_rules.specs.declared.Member.{Member}
 use Rattle.json_rules.specs.Answers.{answerFor}

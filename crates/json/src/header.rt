@@ -3,7 +3,7 @@ use answers::DONE;
 use answers::HEADER_TOO_LONG;
 use answers::NO_SUCH_MEMBER;
 use json_check::check_text;
-use json_members::Kind;
+use json_grammar_rules::Kind;
 use json_members::entry_at;
 use json_members::top_members;
 use json_rules::DEEPEST;
@@ -14,7 +14,6 @@ use json_string::End;
 ghost use mathlib.Core.Path.{_≡_};
 ghost use Prim.Native.Nat.{_<_};
 ghost use lib.ListN.{length};
-ghost use Rattle.json_members.specs.Members.{kindIn};
 ghost use Rattle.json_rules.specs.Answers.{checked, shownBy, memberOf};
 ghost use Rattle.json.specs.Picks.{Picks};
 
@@ -31,7 +30,7 @@ pub fn check(header: &[u8]) -> u8
 
 // A member by the kind of its value.
 fn shown(kind: Kind, name: Place, value: Place) -> Member
-    ensures { λ r. ⌜ r ≡ shownBy (kindIn kind) name value ⌝ }
+    ensures { λ r. ⌜ r ≡ shownBy kind name value ⌝ }
 {
     match kind {
         Kind::String => Member::String(name, value),

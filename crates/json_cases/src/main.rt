@@ -47,7 +47,7 @@ fn line(what: &[u8], h: &[u8], k: usize) {
     say(what);
     say(b": ");
     number(json::check(h) as usize);
-    answer(header_reader::member_at(h, k));
+    answer(json_header_reader::member_at(h, k));
     say(b"\n");
 }
 

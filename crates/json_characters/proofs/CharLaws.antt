@@ -3,8 +3,8 @@ use mathlib.Core.Path.{_≡_, sym, ap, subst}
 use mathlib.Core.List.{List}
 use Prim.Native.Nat.{ℕ, _+_, _≤_, _<_}
 use lib.ListN.{length, getD, drop-of-length-le}
-use Rattle.json_grammar.specs.Bytes.{within}
-use Rattle.json_grammar.specs.Reader.{Got, isUnescaped1, charLead, readEscape, readChar}
+use Rattle.json_grammar_rules.specs.Bytes.{within}
+use Rattle.json_grammar_rules.specs.Reader.{Got, isUnescaped1, charLead, readEscape, readChar}
 use Rattle.json_characters.specs.declared.Scan.{Scan}
 use Rattle.json_characters.specs.declared.Scan.the-variants.{Wrong}
 use Rattle.json_characters.specs.Characters.{Scans, charAt, CharAt}

@@ -3,9 +3,9 @@ use mathlib.Core.Path.{_≡_, _∙_}
 use mathlib.Core.Bool.{true, false}
 use Prim.Native.Nat.{ℕ, _≤_, _<_, _-_}
 use native.Mathlib.Omega.{arith}
-use Rattle.json_grammar.specs.Bytes.{within, isDigit, isHex, hexVal}
-use Rattle.json_grammar.specs.Reader.{isUnescaped1}
-use Rattle.json_grammar.specs.ByteLaws.{within-true}
+use Rattle.json_grammar_rules.specs.Bytes.{within, isDigit, isHex, hexVal}
+use Rattle.json_grammar_rules.specs.Reader.{isUnescaped1}
+use Rattle.json_grammar_rules.specs.ByteLaws.{within-true}
 
 pub unescaped-1 : (b : ℕ) → within 0x20 0x21 b ≡ true → true ≡ isUnescaped1 b
 unfolding isUnescaped1

@@ -7,12 +7,12 @@ use native.Mathlib.Omega.{arith}
 use lib.Dec.{eqb}
 use lib.ListN.{length, drop, getD, length-drop, drop-of-length-le}
 use borrow.Author.Tests.{eq-eqb, ne-eqb}
-use Rattle.json_grammar.specs.Bytes.{isHex, hexVal, hex4, allHex, isHigh, isLow, pairCode}
-use Rattle.json_grammar.specs.Reader.{Got, bad, got, then, one, one-by, readHex, low-by, readLow, unicode-by, readUnicode, EscapeLead, shortLead, escapeLeadOf, escape-by, readEscape}
+use Rattle.json_grammar_rules.specs.Bytes.{isHex, hexVal, hex4, allHex, isHigh, isLow, pairCode}
+use Rattle.json_grammar_rules.specs.Reader.{Got, bad, got, then, one, one-by, readHex, low-by, readLow, unicode-by, readUnicode, EscapeLead, shortLead, escapeLeadOf, escape-by, readEscape}
 use Rattle.json_characters.specs.declared.Scan.{Scan}
 use Rattle.json_characters.specs.declared.Scan.the-variants.{Code, Wrong}
 use Rattle.json_characters.specs.Places.{at-byte}
-use Rattle.json_grammar.specs.ByteLaws.{within-true}
+use Rattle.json_grammar_rules.specs.ByteLaws.{within-true}
 use Rattle.json_characters.specs.Characters.{Scans}
 use Rattle.json_characters.specs.Steps.{ScanAt, ShortEscape, readDigits}
 use Rattle.json_characters.proofs.ScanLaws.{scans-from, scan-same, scan-got, scan-after, scan-one, scan-not, scan-then, scan-none}

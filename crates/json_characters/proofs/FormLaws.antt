@@ -5,11 +5,11 @@ use mathlib.Core.List.{List, [], _∷_}
 use Prim.Native.Nat.{ℕ, zero, suc, _+_, _-_, _≤_, _<_}
 use native.Mathlib.Omega.{arith}
 use borrow.Author.Tests.{ne-eqb}
-use Rattle.json_grammar.specs.Bytes.{within, isTail, code2, code3, code4}
-use Rattle.json_grammar.specs.Reader.{Got, got, one, one-by, isUnescaped1, CharLead, lead2, lead3, lead4, noChar, charLead, char-by, readTwo, readThree, readFour}
+use Rattle.json_grammar_rules.specs.Bytes.{within, isTail, code2, code3, code4}
+use Rattle.json_grammar_rules.specs.Reader.{Got, got, one, one-by, isUnescaped1, CharLead, lead2, lead3, lead4, noChar, charLead, char-by, readTwo, readThree, readFour}
 use Rattle.json_characters.specs.declared.Scan.{Scan}
 use Rattle.json_characters.specs.declared.Scan.the-variants.{Wrong}
-use Rattle.json_grammar.specs.ByteLaws.{within-true, above}
+use Rattle.json_grammar_rules.specs.ByteLaws.{within-true, above}
 use Rattle.json_characters.specs.Steps.{ScanAt, FormAt, readDigits, readTails}
 use Rattle.json_characters.proofs.ScanLaws.{scan-same}
 use Rattle.json_characters.proofs.DigitLaws.{room}

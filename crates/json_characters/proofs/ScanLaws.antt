@@ -5,7 +5,7 @@ use mathlib.Core.List.{List}
 use Prim.Native.Nat.{ℕ, _+_, _≤_, _<_}
 use native.Mathlib.Omega.{arith}
 use lib.ListN.{length, drop, getD, drop-of-length-le}
-use Rattle.json_grammar.specs.Reader.{Got, got, then, one}
+use Rattle.json_grammar_rules.specs.Reader.{Got, got, then, one}
 use Rattle.json_characters.specs.declared.Scan.{Scan}
 use Rattle.json_characters.specs.declared.Scan.the-variants.{Code, Wrong}
 use Rattle.json_characters.specs.Places.{at-byte}

@@ -5,10 +5,10 @@ use mathlib.Core.List.{List}
 use Prim.Native.Nat.{ℕ, _+_, _≤_, _<_}
 use native.Mathlib.Omega.{arith}
 use lib.ListN.{length, drop, getD}
-use Rattle.json_grammar.specs.Bytes.{within}
-use Rattle.json_grammar.specs.CharLaws.{char-sound}
-use Rattle.json_grammar.specs.Reader.{Got, bad, got, isUnescaped1, charLead, readChar}
-use Rattle.json_grammar.specs.Written.{char, longer}
+use Rattle.json_grammar_rules.specs.Bytes.{within}
+use Rattle.json_grammar_rules.specs.CharLaws.{char-sound}
+use Rattle.json_grammar_rules.specs.Reader.{Got, bad, got, isUnescaped1, charLead, readChar}
+use Rattle.json_grammar_rules.specs.Written.{char, longer}
 use Rattle.json_characters.specs.declared.Scan.{Scan}
 use Rattle.json_characters.specs.declared.Scan.the-variants.{Code, Wrong}
 use Rattle.json_characters.specs.Characters.{scanOf, charAt, Scans, CharAt}

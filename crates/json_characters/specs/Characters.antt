@@ -3,8 +3,8 @@ use mathlib.Core.Path.{_≡_}
 use mathlib.Core.List.{List}
 use Prim.Native.Nat.{ℕ, _+_, _≤_}
 use lib.ListN.{length, drop}
-use Rattle.json_grammar.specs.Places.{pos}
-use Rattle.json_grammar.specs.Reader.{Got, bad, got, readChar}
+use Rattle.json_grammar_rules.specs.Places.{pos}
+use Rattle.json_grammar_rules.specs.Reader.{Got, bad, got, readChar}
 use Rattle.json_characters.specs.declared.Scan.{Scan}
 use Rattle.json_characters.specs.declared.Scan.the-variants.{Code, Wrong}
 

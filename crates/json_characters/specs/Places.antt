@@ -6,8 +6,8 @@ use native.Mathlib.Omega.{arith}
 use native.Mathlib.Numerals.{add-one}
 use lib.ListN.{length, drop, getD, length-drop}
 use lib.Seq.{drop-cons}
-use Rattle.json_grammar.specs.Endings.{Ending, at-ending, ending-of, ending-drop}
-use Rattle.json_grammar.specs.Places.{pos}
+use Rattle.json_grammar_rules.specs.Endings.{Ending, at-ending, ending-of, ending-drop}
+use Rattle.json_grammar_rules.specs.Places.{pos}
 
 -- the byte at a place, and the rest
 pub at-byte : (s : List ℕ) (at : ℕ) → at < length s → drop at s ≡ getD s at 0 ∷ drop (at + 1) s

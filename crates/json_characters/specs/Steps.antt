@@ -3,8 +3,8 @@ use mathlib.Core.Bool.{Bool}
 use mathlib.Core.List.{List}
 use Prim.Native.Nat.{ℕ, zero, suc, _+_, _-_, _*_, _≤_}
 use lib.ListN.{length, drop}
-use Rattle.json_grammar.specs.Bytes.{within}
-use Rattle.json_grammar.specs.Reader.{Got, got, one, char-by, charLead, escape-by, escapeLeadOf}
+use Rattle.json_grammar_rules.specs.Bytes.{within}
+use Rattle.json_grammar_rules.specs.Reader.{Got, got, one, char-by, charLead, escape-by, escapeLeadOf}
 use Rattle.json_characters.specs.Characters.{Scans}
 use Rattle.json_characters.specs.declared.Scan.{Scan}
 

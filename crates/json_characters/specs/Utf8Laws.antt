@@ -7,14 +7,14 @@ use native.Mathlib.Omega.{arith}
 use native.Mathlib.Nat.{div-div-eq-div-mul}
 use lib.Dec.{leb}
 use borrow.Author.Tests.{le-leb, lt-leb, leb-true, leb-false}
-use Rattle.json_grammar.specs.Bytes.{within, isDigit, isHex, hexVal, allHex, hex4, isTail, code2, code3, code4, isHigh, isLow, isSurrogate, pairCode}
-use Rattle.json_grammar.specs.Grammar.{Utf8, utf8-1, utf8-2, utf8-E0, utf8-E1, utf8-ED, utf8-EE, utf8-F0, utf8-F1, utf8-F4, codeUtf8, Char, unescaped, short, unicode, surrogates, Short, shortCode, codeOf, Chars, cnil, ccons, codesOf}
-use Rattle.json_grammar.specs.Grammar.{quote, reverse-solidus, solidus, backspace, form-feed, line-feed, carriage-return, tab}
-use Rattle.json_grammar.specs.Reader.{Got, bad, got, readChar}
+use Rattle.json_grammar_rules.specs.Bytes.{within, isDigit, isHex, hexVal, allHex, hex4, isTail, code2, code3, code4, isHigh, isLow, isSurrogate, pairCode}
+use Rattle.json_grammar_rules.specs.Grammar.{Utf8, utf8-1, utf8-2, utf8-E0, utf8-E1, utf8-ED, utf8-EE, utf8-F0, utf8-F1, utf8-F4, codeUtf8, Char, unescaped, short, unicode, surrogates, Short, shortCode, codeOf, Chars, cnil, ccons, codesOf}
+use Rattle.json_grammar_rules.specs.Grammar.{quote, reverse-solidus, solidus, backspace, form-feed, line-feed, carriage-return, tab}
+use Rattle.json_grammar_rules.specs.Reader.{Got, bad, got, readChar}
 use Rattle.common.specs.Truth.{both, neither}
-use Rattle.json_grammar.specs.ByteLaws.{within-true, within-is, by-test}
-use Rattle.json_grammar.specs.ReaderLaws.{no-bad}
-use Rattle.json_grammar.specs.CharLaws.{complete-char, char-sound}
+use Rattle.json_grammar_rules.specs.ByteLaws.{within-true, within-is, by-test}
+use Rattle.json_grammar_rules.specs.ReaderLaws.{no-bad}
+use Rattle.json_grammar_rules.specs.CharLaws.{complete-char, char-sound}
 use Rattle.json_characters.specs.Utf8.{tail, octets, utf8, Scalar, low, high, Each, none, more}
 
 -- ASCII

@@ -2,8 +2,8 @@
 ghost use mathlib.Core.Path.{_≡_};
 ghost use mathlib.Core.Bool.{true};
 ghost use Prim.Native.Nat.{_<_};
-ghost use Rattle.json_grammar.specs.Bytes.{within, isHex, hexVal};
-ghost use Rattle.json_grammar.specs.Reader.{isUnescaped1};
+ghost use Rattle.json_grammar_rules.specs.Bytes.{within, isHex, hexVal};
+ghost use Rattle.json_grammar_rules.specs.Reader.{isUnescaped1};
 use common::wide;
 
 // Whether b lies from lo to hi. Rules out lo left out, and hi left out.

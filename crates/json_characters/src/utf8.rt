@@ -3,7 +3,7 @@ ghost use mathlib.Core.Path.{_≡_};
 ghost use mathlib.Core.Bool.{false};
 ghost use Prim.Native.Nat.{_<_, _≤_};
 ghost use lib.ListN.{length};
-ghost use Rattle.json_grammar.specs.Reader.{isUnescaped1};
+ghost use Rattle.json_grammar_rules.specs.Reader.{isUnescaped1};
 ghost use Rattle.json_characters.specs.Octets.{octetsIn};
 ghost use Rattle.json_characters.specs.Steps.{ScanAt, readTails, FormAt};
 ghost use Rattle.json_characters.specs.Utf8.{tail};

@@ -11,9 +11,9 @@ use lib.Seq.{getD-set-same, getD-set-other}
 use borrow.Author.Tests.{eqb-true, eqb-false, ne-eqb}
 use Rattle.common.specs.Same.{same}
 use Rattle.common.specs.SameLaws.{same-sym}
-use Rattle.json_grammar.specs.Value.{among, repeated, names, LMembers, item, named, lnil, lcons, plain}
-use Rattle.json_grammar.specs.Reader.{Got, bad, got, readChars}
-use Rattle.json_grammar.specs.Scan.{namesTwice, scan-string, scan}
+use Rattle.json_grammar_rules.specs.Value.{among, repeated, names, LMembers, item, named, lnil, lcons, plain}
+use Rattle.json_grammar_rules.specs.Reader.{Got, bad, got, readChars}
+use Rattle.json_grammar_rules.specs.Scan.{namesTwice, scan-string, scan}
 use Rattle.json_string.specs.declared.End.{End}
 use Rattle.json_string.specs.declared.End.the-variants.{At, Bad}
 use Rattle.json_string.specs.Ends.{at-byte, left, shorter, fuel, ends-at, ends-bad}

@@ -6,9 +6,9 @@ use Prim.Native.Nat.{ℕ}
 use native.Mathlib.Omega.{arith}
 use lib.ListN.{length}
 use Rattle.common.specs.First.{_when_, first}
-use Rattle.json_grammar.specs.Value.{LMembers}
-use Rattle.json_grammar.specs.Reader.{Got, read}
-use Rattle.json_grammar.specs.ScanLaws.{scan-read}
+use Rattle.json_grammar_rules.specs.Value.{LMembers}
+use Rattle.json_grammar_rules.specs.Reader.{Got, read}
+use Rattle.json_grammar_rules.specs.ScanLaws.{scan-read}
 use Rattle.json_reader.specs.Contracts.{isText}
 use Rattle.json_rules.specs.Answers.{membersIn, twiceIn, grammarTests}
 use Rattle.json_rules.specs.AnswerLaws.{text-read}

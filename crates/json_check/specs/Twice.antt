@@ -4,9 +4,9 @@ use mathlib.Core.Bool.{Bool, true, false, _||_}
 use mathlib.Core.List.{List, [], _∷_}
 use Prim.Native.Nat.{ℕ, suc, _≤_, _<_}
 use lib.ListN.{length, drop, getD}
-use Rattle.json_grammar.specs.Value.{among, repeated, names, LMembers, plainMembers}
-use Rattle.json_grammar.specs.Reader.{ws}
-use Rattle.json_grammar.specs.Scan.{namesTwice, scan}
+use Rattle.json_grammar_rules.specs.Value.{among, repeated, names, LMembers, plainMembers}
+use Rattle.json_grammar_rules.specs.Reader.{ws}
+use Rattle.json_grammar_rules.specs.Scan.{namesTwice, scan}
 use Rattle.json_string.specs.declared.End.the-variants.{At}
 use Rattle.json_string.specs.Strings.{NameAt, fingerprintAt}
 use Rattle.json_reader.specs.Contracts.{readMembers}

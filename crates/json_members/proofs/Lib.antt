@@ -1,2 +1,3 @@
 -- Laws for the code's proofs.
 pub mod StepPaths
+pub mod TakenLaws

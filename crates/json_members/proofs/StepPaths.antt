@@ -5,28 +5,28 @@ use Prim.Native.Nat.{ℕ, _+_, _-_, _≤_, _<_}
 use native.Mathlib.Omega.{arith}
 use lib.ListN.{length, drop, getD, length-drop, drop-of-length-le}
 use borrow.Author.Tests.{eq-eqb, ne-eqb}
-use Rattle.json_grammar.specs.Value.{LValue, LItem, LMember, item, named, plain}
-use Rattle.json_grammar.specs.Places.{kindOf, margin, pos, Kind as Kinds}
-use Rattle.json_grammar.specs.Reader.{Got, got, then, over, expect, ws, placedItem, readChars, readValue, valueLead}
-use Rattle.json_grammar.specs.ReaderLaws.{expect-over}
-use Rattle.json_grammar.specs.Levels.{readMember}
-use Rattle.json_grammar.specs.ByteLaws.{by-byte}
+use Rattle.json_grammar_rules.specs.Value.{LValue, LItem, LMember, item, named, plain}
+use Rattle.json_grammar_rules.specs.declared.Kind.{Kind}
+use Rattle.json_grammar_rules.specs.Places.{kindOf, margin, pos}
+use Rattle.json_grammar_rules.specs.Reader.{Got, got, then, over, expect, ws, placedItem, readChars, readValue, valueLead}
+use Rattle.json_grammar_rules.specs.ReaderLaws.{expect-over}
+use Rattle.json_grammar_rules.specs.Levels.{readMember}
+use Rattle.json_grammar_rules.specs.ByteLaws.{by-byte}
 use Rattle.json_string.specs.declared.End.{End}
 use Rattle.json_string.specs.declared.End.the-variants.{At, Bad}
 use Rattle.json_string.specs.Ends.{at-byte, pos-drop, ends-at, ends-bad}
 use Rattle.json_string.specs.Strings.{StringEnds}
 use Rattle.json_tokens.specs.Tokens.{SkipsTo}
 use Rattle.json_reader.specs.Contracts.{bareEnd, valueSpan, readTrimmed, readAfterName, kindBy}
-use Rattle.json_reader.specs.declared.values.Span.the-variants.{Found, Nowhere}
+use Rattle.json_reader.specs.declared.values.Span.the-variants.{Between, Nowhere}
 use Rattle.json_tokens.specs.EndsLaws.{given, none, bounds}
 use Rattle.json_reader.specs.ValueLaws.{trimmed-kind, placed-at}
-use Rattle.json_reader.specs.ReadLaws.{bare-ends, span-found, span-none}
+use Rattle.json_reader.specs.ReadLaws.{bare-ends, span-between, span-none}
 use Rattle.json_rules.specs.declared.Place.{Place}
-use Rattle.json_members.specs.declared.places.Kind.{Kind}
 use Rattle.json_members.specs.declared.steps.Item.{Item}
 use Rattle.json_members.specs.declared.steps.Entry.{Entry}
 use Rattle.json_rules.specs.Answers.{place}
-use Rattle.json_members.specs.Steps.{firstIn, topIn, topMembers, firstMember, startIn, nextIn, kindFor, itemBy, noItem, itemIn, itemAt, entryBy, noEntry, entryIn, entryAt}
+use Rattle.json_members.specs.Steps.{firstIn, topIn, topMembers, firstMember, startIn, nextIn, itemBy, noItem, itemIn, itemAt, entryBy, noEntry, entryIn, entryAt}
 
 pos-byte : (s : List ℕ) (i : ℕ) → i < length s → pos s (getD s i 0 ∷ drop (i + 1) s) ≡ i
 pos-byte s i h = ap (pos s) (sym (at-byte s i h)) ∙ pos-drop s i (omega arith)
@@ -104,7 +104,7 @@ module _ (b f e : ℕ) where
     pub place-other : place f e ≡ by-first
     place-other = ap₂ place (omega (arith, no-margin)) (omega (arith, no-margin))
 
-pub item-made : (s : List ℕ) (k : Kinds) (f e : ℕ) (y : List ℕ) {x : Place} {j : Kind} {n : End} → x ≡ place (f + margin k) (e - margin k) → j ≡ kindFor k → n ≡ nextIn s y
+pub item-made : (s : List ℕ) (k : Kind) (f e : ℕ) (y : List ℕ) {x : Place} {j : Kind} {n : End} → x ≡ place (f + margin k) (e - margin k) → j ≡ k → n ≡ nextIn s y
     → _≡_ {A = Item} (record { value = x; kind = j; next = n }) (itemBy s k f e y)
 unfolding itemBy
 item-made s k f e y a b c = cc
@@ -137,8 +137,8 @@ module _ {s : List ℕ} {p f : ℕ} (d : ℕ) (w : SkipsTo s p f) where
 
 -- A MEMBER
 
-pub span-within : (s : List ℕ) (q d : ℕ) {f e : ℕ} → Found f e ≡ valueSpan s q d → (f < e) × (e ≤ length s)
-span-within s q d k = let r = span-found s q d (length (drop q s)) (omega arith) k in (r .some, r .within)
+pub span-within : (s : List ℕ) (q d : ℕ) {f e : ℕ} → Between f e ≡ valueSpan s q d → (f < e) × (e ≤ length s)
+span-within s q d k = let r = span-between s q d (length (drop q s)) (omega arith) k in (r .some, r .within)
 
 module _ (s : List ℕ) (p d : ℕ) (h : p < length s) where
   -- past the quotation mark
@@ -174,11 +174,11 @@ module _ (s : List ℕ) (p d : ℕ) (h : p < length s) where
       unfolding pos
       name-place = ap₂ place (sym (pos-drop s (p + 1) (omega arith))) (omega (arith, name-end .0, name-end .1, length-drop q s))
 
-      pub entry-is : {f e : ℕ} {i : Item} → Found f e ≡ valueSpan s q d → i ≡ itemBy s (kindBy (valueLead (getD s f 0))) f e (ws (drop e s))
+      pub entry-is : {f e : ℕ} {i : Item} → Between f e ≡ valueSpan s q d → i ≡ itemBy s (kindBy (valueLead (getD s f 0))) f e (ws (drop e s))
           → _≡_ {A = Entry} (record { name = place (p + 1) (q - 1); value = i .value; kind = i .kind; next = i .next }) (entryAt s p d)
       unfolding entryIn entryBy
       entry-is {f} {e} w c =
-          let r = span-found s q d (length s) (omega (arith, length-drop q s)) w in
+          let r = span-between s q d (length s) (omega (arith, length-drop q s)) w in
           ap₂ entryBy name-place (c ∙ sym (item-of s f e (r .value) (r .some) (r .within) (r .kind))) ∙ sym (valued (r .reads) .1)
 
       pub no-value : {r : Entry} → Nowhere ≡ valueSpan s q d → r ≡ noEntry → r ≡ entryAt s p d

@@ -2,9 +2,9 @@
 use mathlib.Core.Path.{_≡_, refl}
 use mathlib.Core.List.{List, [], _∷_}
 use Prim.Native.Nat.{ℕ}
-use Rattle.json_grammar.specs.Bytes.{isWs}
-use Rattle.json_grammar.specs.Places.{pos}
-use Rattle.json_grammar.specs.Reader.{skip}
+use Rattle.json_grammar_rules.specs.Bytes.{isWs}
+use Rattle.json_grammar_rules.specs.Places.{pos}
+use Rattle.json_grammar_rules.specs.Reader.{skip}
 use Rattle.json_string.specs.declared.End.the-variants.{At, Bad}
 use Rattle.json_members.specs.Steps.{startIn, nextIn}
 

@@ -2,8 +2,8 @@
 use mathlib.Core.List.{List}
 use Prim.Native.Nat.{ℕ}
 use lib.ListN.{drop}
-use Rattle.json_grammar.specs.Value.{inil, lnil}
-use Rattle.json_grammar.specs.Sequences.{members, elements, not-none}
+use Rattle.json_grammar_rules.specs.Value.{inil, lnil}
+use Rattle.json_grammar_rules.specs.Sequences.{members, elements, not-none}
 use Rattle.json_members.specs.Members.{MembersAt, ElementsAt}
 
 -- there is a member where members stand, and an element where elements do

@@ -3,16 +3,15 @@ use mathlib.Core.Path.{_≡_}
 use mathlib.Core.List.{List}
 use Prim.Native.Nat.{ℕ, _+_, _-_, _≤_, _<_}
 use lib.ListN.{length, take, drop}
-use Rattle.json_grammar.specs.Value.{LValue, LItems, LMembers, stringL, numberL, trueL, falseL, nullL, arrayL, objectL, item, inil, icons, named, lnil, lcons, plain}
-use Rattle.json_grammar.specs.Places.{stringK, numberK, trueK, falseK, nullK, arrayK, objectK, kindOf, margin, pos, Kind as Kinds}
-use Rattle.json_grammar.specs.Reader.{Got, got, read, readObject}
+use Rattle.json_grammar_rules.specs.Value.{LValue, LItems, LMembers, stringL, numberL, trueL, falseL, nullL, arrayL, objectL, item, inil, icons, named, lnil, lcons, plain}
+use Rattle.json_grammar_rules.specs.declared.Kind.{Kind}
+use Rattle.json_grammar_rules.specs.Places.{kindOf, margin, pos}
+use Rattle.json_grammar_rules.specs.Reader.{Got, got, read, readObject}
 use Rattle.json_string.specs.declared.End.{End}
 use Rattle.json_string.specs.declared.End.the-variants.{At, Bad}
 use Rattle.json_string.specs.Strings.{NameAt}
 use Rattle.json_reader.specs.Contracts.{readMembers, readElements, readArray}
 use Rattle.json_rules.specs.declared.Place.{Place}
-use Rattle.json_members.specs.declared.places.Kind.{Kind}
-use Rattle.json_members.specs.declared.places.Kind.the-variants.{String, Number, True, False, Null, Array, Object}
 use Rattle.json_members.specs.declared.steps.Item.{Item}
 use Rattle.json_members.specs.declared.steps.Entry.{Entry}
 
@@ -67,35 +66,26 @@ pub record TopMembers (s : List ℕ) (r : End) : Type 0 where
 
 -- ONE STEP
 
-abbrev pub kindIn : Kind → Kinds
-kindIn String = stringK
-kindIn Number = numberK
-kindIn True = trueK
-kindIn False = falseK
-kindIn Null = nullK
-kindIn Array = arrayK
-kindIn Object = objectK
-
 -- the bytes of a part
 abbrev pub part : List ℕ → Place → List ℕ
 part s x = take (x .end - x .start) (drop (x .start) s)
 
 -- what stands at the place x of a value v, by its kind
-abbrev pub Holds : List ℕ → ℕ → Place → Kinds → LValue → Type 0
-Holds s d x stringK v = (cs : List ℕ) × (v ≡ stringL cs) × NameAt s (x .start) cs
-Holds s d x numberK v = (cs : List ℕ) × (v ≡ numberL cs) × (part s x ≡ cs)
-Holds s d x trueK v = v ≡ trueL
-Holds s d x falseK v = v ≡ falseL
-Holds s d x nullK v = v ≡ nullL
-Holds s d x arrayK v = (vs : LItems) × (v ≡ arrayL vs) × (x .start < length s) × ArrayAt s (x .start + 1) d vs
-Holds s d x objectK v = (ms : LMembers) × (v ≡ objectL ms) × (x .start < length s) × ObjectAt s (x .start + 1) d ms
+abbrev pub Holds : List ℕ → ℕ → Place → Kind → LValue → Type 0
+Holds s d x Kind.String v = (cs : List ℕ) × (v ≡ stringL cs) × NameAt s (x .start) cs
+Holds s d x Kind.Number v = (cs : List ℕ) × (v ≡ numberL cs) × (part s x ≡ cs)
+Holds s d x Kind.True v = v ≡ trueL
+Holds s d x Kind.False v = v ≡ falseL
+Holds s d x Kind.Null v = v ≡ nullL
+Holds s d x Kind.Array v = (vs : LItems) × (v ≡ arrayL vs) × (x .start < length s) × ArrayAt s (x .start + 1) d vs
+Holds s d x Kind.Object v = (ms : LMembers) × (v ≡ objectL ms) × (x .start < length s) × ObjectAt s (x .start + 1) d ms
 
 -- k and x are the kind and the place of the value v, which a and b are the bytes from, and past: a string is taken between its quotation marks
 pub record ValueIs (s : List ℕ) (d : ℕ) (k : Kind) (x : Place) (a b : List ℕ) (v : LValue) : Type 0 where
-  pub kind : kindIn k ≡ kindOf (plain v)
+  pub kind : k ≡ kindOf (plain v)
   pub start : x .start ≡ pos s a + margin (kindOf (plain v))
   pub end : x .end ≡ pos s b - margin (kindOf (plain v))
-  pub holds : Holds s d x (kindIn k) v
+  pub holds : Holds s d x k v
 
 -- x is the place of the name n, which f and t are the bytes from, and past
 pub record NameIs (s : List ℕ) (x : Place) (f t n : List ℕ) : Type 0 where

@@ -8,15 +8,16 @@ use native.Mathlib.Numerals.{sub-one}
 use lib.Dec.{eqb}
 use borrow.Author.Tests.{eqb-true}
 use lib.ListN.{length, take, drop, getD, length-drop}
-use Rattle.json_grammar.specs.Value.{LValue, LItem, LItems, LMember, LMembers, stringL, numberL, trueL, falseL, nullL, arrayL, objectL, item, icons, named, lcons, plain}
-use Rattle.json_grammar.specs.Places.{stringK, numberK, trueK, falseK, nullK, arrayK, objectK, kindOf, margin, pos, Kind as Kinds}
-use Rattle.json_grammar.specs.Reader.{Got, bad, got, deeper, ws, word, upTo, value-by, readChars, readNumber, pastNumber, readValue, readMoreMembers, readMoreElements, readObject}
-use Rattle.json_grammar.specs.Reader.{ValueLead, quoteLead, bracketLead, braceLead, trueLead, falseLead, nullLead, numberLead, valueLead}
-use Rattle.json_grammar.specs.ReaderLaws.{no-bad, then-inv, over-inv, read-inv}
-use Rattle.json_grammar.specs.Sequences.{Sequence, listed, members, elements, list-inv, list-out, MemberRead, member-inv}
-use Rattle.json_grammar.specs.Levels.{readBare, readMember}
-use Rattle.json_grammar.specs.Endings.{Ending, shorter-ending, at-ending, ending-of, ending-drop, ending-byte, ending-ws, ValueRead, value-read, name-ends, colon-ends}
-use Rattle.json_grammar.specs.Fuel.{value-fuel, member-fuel}
+use Rattle.json_grammar_rules.specs.Value.{LValue, LItem, LItems, LMember, LMembers, stringL, numberL, trueL, falseL, nullL, arrayL, objectL, item, icons, named, lcons, plain}
+use Rattle.json_grammar_rules.specs.declared.Kind.{Kind}
+use Rattle.json_grammar_rules.specs.Places.{kindOf, margin, pos}
+use Rattle.json_grammar_rules.specs.Reader.{Got, bad, got, deeper, ws, word, upTo, value-by, readChars, readNumber, pastNumber, readValue, readMoreMembers, readMoreElements, readObject}
+use Rattle.json_grammar_rules.specs.Reader.{ValueLead, quoteLead, bracketLead, braceLead, trueLead, falseLead, nullLead, numberLead, valueLead}
+use Rattle.json_grammar_rules.specs.ReaderLaws.{no-bad, then-inv, over-inv, read-inv}
+use Rattle.json_grammar_rules.specs.Sequences.{Sequence, sequence, members, elements, list-inv, list-out, MemberRead, member-inv}
+use Rattle.json_grammar_rules.specs.Levels.{readBare, readMember}
+use Rattle.json_grammar_rules.specs.Endings.{Ending, shorter-ending, at-ending, ending-of, ending-drop, ending-byte, ending-ws, ValueRead, value-read, name-ends, colon-ends}
+use Rattle.json_grammar_rules.specs.Fuel.{value-fuel, member-fuel}
 use Rattle.json_string.specs.declared.End.{End}
 use Rattle.json_string.specs.declared.End.the-variants.{At, Bad}
 use Rattle.json_string.specs.Ends.{at-byte}
@@ -27,8 +28,8 @@ use Rattle.json_rules.specs.declared.Place.{Place}
 use Rattle.json_rules.specs.Answers.{place}
 use Rattle.json_members.specs.declared.steps.Item.{Item}
 use Rattle.json_members.specs.declared.steps.Entry.{Entry}
-use Rattle.json_members.specs.Members.{ReadsAt, ReadsFrom, MembersAt, MembersFrom, ElementsAt, ElementsFrom, FirstMember, FirstElement, TopMembers, kindIn, part, Holds, ValueIs, NameIs, ItemAt, EntryAt}
-use Rattle.json_members.specs.Steps.{firstIn, firstMember, firstElement, topIn, topMembers, startIn, nextIn, kindFor, itemBy, itemIn, itemAt, entryBy, entryIn, entryAt}
+use Rattle.json_members.specs.Members.{ReadsAt, ReadsFrom, MembersAt, MembersFrom, ElementsAt, ElementsFrom, FirstMember, FirstElement, TopMembers, part, Holds, ValueIs, NameIs, ItemAt, EntryAt}
+use Rattle.json_members.specs.Steps.{firstIn, firstMember, firstElement, topIn, topMembers, startIn, nextIn, itemBy, itemIn, itemAt, entryBy, entryIn, entryAt}
 
 -- Bad is no place
 pub never : {B : Type 0} {q : ℕ} → Bad ≡ At q → B
@@ -39,7 +40,7 @@ never e = absurd (let z : _≡_ {A = ℕ} 0 1 = cc in omega arith)
 module _ {A B : Type 0} {nothing : A} {cons : B → A → A} {one : ℕ → ℕ → List ℕ → Got B} {inside more : ℕ → ℕ → List ℕ → Got A} {close : ℕ}
     (q : Sequence nothing cons one inside more close) where
   abbrev list : ℕ → ℕ → List ℕ → Got A
-  list n d x = listed cons one more n d x
+  list n d x = sequence cons one more n d x
 
   module _ {s : List ℕ} where
     -- what is read from an end of the text is read at its place
@@ -148,16 +149,6 @@ top-members h e = subst (λ (z : End). TopMembers h z) (sym e) (go (ws h) refl)
 
 -- THE KIND AND THE PLACE OF A VALUE
 
-kind-back : (k : Kinds) → kindIn (kindFor k) ≡ k
-unfolding kindFor
-kind-back stringK = refl
-kind-back numberK = refl
-kind-back trueK = refl
-kind-back falseK = refl
-kind-back nullK = refl
-kind-back arrayK = refl
-kind-back objectK = refl
-
 -- WHAT IS READ, by the first byte
 
 -- what is read from its first byte b on
@@ -207,7 +198,7 @@ module _ (s : List ℕ) (f e n d : ℕ) (h : f < length s) (k : f < e) (l : e �
 
 -- the value that is read from x on, an end of the text
 value-is : {s x : List ℕ} → Ending s x → (n d : ℕ) (a b : List ℕ) (v : LValue) (y : List ℕ) → length x ≤ n → readValue n d x ≡ got (item a b v) y
-    → ValueIs s d (kindFor (kindOf (plain v))) (place (pos s a + margin (kindOf (plain v))) (pos s b - margin (kindOf (plain v)))) a b v
+    → ValueIs s d (kindOf (plain v)) (place (pos s a + margin (kindOf (plain v))) (pos s b - margin (kindOf (plain v)))) a b v
 unfolding pos readTrimmed
 value-is {s} {x} i n d a b v y l e =
     let r = value-read n d x a b v y e in
@@ -216,7 +207,7 @@ value-is {s} {x} i n d a b v y l e =
     join r (shorter-ending begins) (shorter-ending (r .begins)) (at-ending begins) (at-ending ends)
   where
     join : ValueRead n d x a b v y → length a ≤ length s → length a ≤ length x → drop (pos s a) s ≡ a → drop (pos s b) s ≡ b
-        → ValueIs s d (kindFor (kindOf (plain v))) (place (pos s a + margin (kindOf (plain v))) (pos s b - margin (kindOf (plain v)))) a b v
+        → ValueIs s d (kindOf (plain v)) (place (pos s a + margin (kindOf (plain v))) (pos s b - margin (kindOf (plain v)))) a b v
     join r la lx p q =
         let some = r .some in
         let f = pos s a in
@@ -226,11 +217,11 @@ value-is {s} {x} i n d a b v y l e =
         let few : length (drop (f + 1) s) ≤ r .below = omega (arith, r .fuel, ap length p, length-drop (f + 1) s) in
         let k = trimmed-kind (suc (r .below)) d (getD s f 0) (drop (f + 1) s) c in
         record {
-          kind = kind-back (kindOf (plain v));
+          kind = refl;
           start = refl;
           end = refl;
-          holds = subst (λ (j : Kinds). Holds s d (place (f + margin (kindOf (plain v))) (pos s b - margin (kindOf (plain v)))) j v) (sym (kind-back (kindOf (plain v)) ∙ k))
-              (by-lead s f (pos s b) (r .below) d h (omega arith) (omega arith) few (valueLead (getD s f 0)) v c _ (ap (λ (j : Kinds). f + margin j) k) (ap (λ (j : Kinds). pos s b - margin j) k));
+          holds = subst (λ (j : Kind). Holds s d (place (f + margin (kindOf (plain v))) (pos s b - margin (kindOf (plain v)))) j v) (sym k)
+              (by-lead s f (pos s b) (r .below) d h (omega arith) (omega arith) few (valueLead (getD s f 0)) v c _ (ap (λ (j : Kind). f + margin j) k) (ap (λ (j : Kind). pos s b - margin j) k));
         }
 
 -- ELEMENTS

@@ -4,15 +4,14 @@ use mathlib.Core.List.{List, [], _∷_}
 use Prim.Native.Nat.{ℕ, _+_, _-_}
 use lib.Dec.{eqb}
 use lib.ListN.{length, drop}
-use Rattle.json_grammar.specs.Value.{LItem, LMember, item, named, plain}
-use Rattle.json_grammar.specs.Places.{stringK, numberK, trueK, falseK, nullK, arrayK, objectK, kindOf, margin, pos, Kind as Kinds}
-use Rattle.json_grammar.specs.Reader.{Got, bad, got, ws, readValue}
-use Rattle.json_grammar.specs.Levels.{readMember}
+use Rattle.json_grammar_rules.specs.Value.{LItem, LMember, item, named, plain}
+use Rattle.json_grammar_rules.specs.declared.Kind.{Kind}
+use Rattle.json_grammar_rules.specs.Places.{kindOf, margin, pos}
+use Rattle.json_grammar_rules.specs.Reader.{Got, bad, got, ws, readValue}
+use Rattle.json_grammar_rules.specs.Levels.{readMember}
 use Rattle.json_string.specs.declared.End.{End}
 use Rattle.json_string.specs.declared.End.the-variants.{At, Bad}
 use Rattle.json_rules.specs.declared.Place.{Place}
-use Rattle.json_members.specs.declared.places.Kind.{Kind}
-use Rattle.json_members.specs.declared.places.Kind.the-variants.{String, Number, True, False, Null, Array, Object}
 use Rattle.json_members.specs.declared.steps.Item.{Item}
 use Rattle.json_members.specs.declared.steps.Entry.{Entry}
 use Rattle.json_rules.specs.Answers.{place}
@@ -52,22 +51,12 @@ nextIn s (b ∷ x) = cond (eqb b 0x2C) (startIn s (ws x)) Bad
 
 -- WHAT STANDS AT A PLACE
 
--- the code's kind
-unfoldable pub kindFor : Kinds → Kind
-kindFor stringK = String
-kindFor numberK = Number
-kindFor trueK = True
-kindFor falseK = False
-kindFor nullK = Null
-kindFor arrayK = Array
-kindFor objectK = Object
-
 -- a value of kind k from f to e, and y, the bytes past it and white space: a string is taken between its quotation marks
-unfoldable pub itemBy : List ℕ → Kinds → ℕ → ℕ → List ℕ → Item
-itemBy s k f e y = record { value = place (f + margin k) (e - margin k); kind = kindFor k; next = nextIn s y }
+unfoldable pub itemBy : List ℕ → Kind → ℕ → ℕ → List ℕ → Item
+itemBy s k f e y = record { value = place (f + margin k) (e - margin k); kind = k; next = nextIn s y }
 
 abbrev pub noItem : Item
-noItem = record { value = place 0 0; kind = Null; next = Bad }
+noItem = record { value = place 0 0; kind = Kind.Null; next = Bad }
 
 unfoldable pub itemIn : List ℕ → Got LItem → Item
 itemIn s bad = noItem
@@ -82,7 +71,7 @@ unfoldable pub entryBy : Place → Item → Entry
 entryBy n i = record { name = n; value = i .value; kind = i .kind; next = i .next }
 
 abbrev pub noEntry : Entry
-noEntry = record { name = place 0 0; value = place 0 0; kind = Null; next = Bad }
+noEntry = record { name = place 0 0; value = place 0 0; kind = Kind.Null; next = Bad }
 
 unfoldable pub entryIn : List ℕ → Got LMember → Entry
 entryIn s bad = noEntry

@@ -1,27 +1,16 @@
 // Kinds and places of values.
+use json_grammar_rules::Kind;
 use json_rules::Place;
 ghost use mathlib.Core.Path.{_≡_};
 ghost use Prim.Native.Nat.{_+_, _-_, _<_};
-ghost use Rattle.json_grammar.specs.Places.{margin};
-ghost use Rattle.json_grammar.specs.Reader.{valueLead};
+ghost use Rattle.json_grammar_rules.specs.Places.{margin};
+ghost use Rattle.json_grammar_rules.specs.Reader.{valueLead};
 ghost use Rattle.json_reader.specs.Contracts.{kindBy};
 ghost use Rattle.json_rules.specs.Answers.{place};
-ghost use Rattle.json_members.specs.Steps.{kindFor};
-
-// The seven kinds of value.
-pub enum Kind {
-    String,
-    Number,
-    True,
-    False,
-    Null,
-    Array,
-    Object,
-}
 
 // The kind of a value that begins with the byte b.
 pub(crate) fn kind_by(b: u8) -> Kind
-    ensures { λ r. ⌜ r ≡ kindFor (kindBy (valueLead b)) ⌝ }
+    ensures { λ r. ⌜ r ≡ kindBy (valueLead b) ⌝ }
 {
     if b == 0x22 {
         return Kind::String;

@@ -1,7 +1,7 @@
 // The members of an object and the elements of an array, one by one. A step reads its member or element once.
-use crate::places::Kind;
 use crate::places::kind_by;
 use crate::places::place_by;
+use json_grammar_rules::Kind;
 use json_reader::Span;
 use json_reader::bare;
 use json_reader::value_span;
@@ -12,7 +12,7 @@ use json_tokens::skip_ws;
 ghost use mathlib.Core.Path.{_≡_};
 ghost use Prim.Native.Nat.{_+_, _≤_, _<_};
 ghost use lib.ListN.{length, drop, getD};
-ghost use Rattle.json_grammar.specs.Reader.{ws, valueLead};
+ghost use Rattle.json_grammar_rules.specs.Reader.{ws, valueLead};
 ghost use Rattle.json_reader.specs.Contracts.{kindBy};
 ghost use Rattle.json_members.specs.Steps.{firstIn, firstMember, firstElement, topMembers, nextIn, itemBy, noItem, itemAt, noEntry, entryAt};
 
@@ -151,7 +151,7 @@ pub fn entry_at(s: &[u8], p: usize, depth: usize) -> Entry
     match string_end(s, p + 1) {
         End::At(q) => {
             match value_span(s, q, depth) {
-                Span::Found(f, e) => {
+                Span::Between(f, e) => {
                     let i = spanned(s, f, e);
                     let value = i.value;
                     let kind = i.kind;

@@ -5,11 +5,11 @@ use Prim.Native.Nat.{ℕ, suc, _≤_, _<_, _+_, _-_}
 use native.Mathlib.Omega.{arith}
 use lib.ListN.{length, drop, getD}
 use borrow.Author.Tests.{eq-eqb, ne-eqb}
-use Rattle.json_grammar.specs.Value.{LMember, stringL, numberL, trueL, falseL, nullL, arrayL, objectL, item, named}
-use Rattle.json_grammar.specs.Reader.{Got, bad, got, over, expect, ws, deeper, upTo, valueLead, readChars, readValue, readMoreElements, readMoreMembers}
-use Rattle.json_grammar.specs.ReaderLaws.{expect-over}
-use Rattle.json_grammar.specs.Sequences.{Sequence, listed, members, elements}
-use Rattle.json_grammar.specs.Levels.{readMembers}
+use Rattle.json_grammar_rules.specs.Value.{LMember, stringL, numberL, trueL, falseL, nullL, arrayL, objectL, item, named}
+use Rattle.json_grammar_rules.specs.Reader.{Got, bad, got, over, expect, ws, deeper, upTo, valueLead, readChars, readValue, readMoreElements, readMoreMembers}
+use Rattle.json_grammar_rules.specs.ReaderLaws.{expect-over}
+use Rattle.json_grammar_rules.specs.Sequences.{Sequence, sequence, members, elements}
+use Rattle.json_grammar_rules.specs.Levels.{readMembers}
 use Rattle.json_string.specs.declared.End.{End}
 use Rattle.json_string.specs.declared.End.the-variants.{At, Bad}
 use Rattle.json_string.specs.Ends.{by, shorter}
@@ -28,20 +28,20 @@ use Rattle.json_tokens.specs.EndsLaws.{given, none, bounds, earlier, same, wron
 module _ {A B : Type 0} {nothing : A} {cons : B → A → A} {one : ℕ → ℕ → List ℕ → Got B} {inside more : ℕ → ℕ → List ℕ → Got A} {close : ℕ}
     (q : Sequence nothing cons one inside more close) {s : List ℕ} where
   module _ {at e : ℕ} (d : ℕ) (h : EndsBy (λ n x. one n d x) s at at (At e)) where
-    one-read : {r : End} → EndsBy (λ n x. more n d x) s e e r → EndsBy (λ n x. listed cons one more n d x) s at at r
+    one-read : {r : End} → EndsBy (λ n x. more n d x) s e e r → EndsBy (λ n x. sequence cons one more n d x) s at at r
     one-read k = bind (omega arith) (λ x b n y. over (cons b) (more n d y)) h (λ b. map (λ n x. cons b) k)
 
-    pub list-close : e < length s → getD s e 0 ≡ close → EndsBy (λ n x. listed cons one more n d x) s at at (At (e + 1))
+    pub list-close : e < length s → getD s e 0 ≡ close → EndsBy (λ n x. sequence cons one more n d x) s at at (At (e + 1))
     list-close k b = one-read (first-only k (omega arith) nothing (λ n. q .more-none n d (getD s e 0) (drop (e + 1) s) (eq-eqb (getD s e 0) close b)))
 
-    pub list-other : e < length s → (getD s e 0 ≡ close → ⊥) → (getD s e 0 ≡ 0x2C → ⊥) → EndsBy (λ n x. listed cons one more n d x) s at at Bad
+    pub list-other : e < length s → (getD s e 0 ≡ close → ⊥) → (getD s e 0 ≡ 0x2C → ⊥) → EndsBy (λ n x. sequence cons one more n d x) s at at Bad
     list-other k b c =
         one-read (first-bad k (omega arith) (λ n. q .more-other n d (getD s e 0) (drop (e + 1) s) (ne-eqb (getD s e 0) close b) (ne-eqb (getD s e 0) 0x2C c)))
 
-    pub list-out : length s ≤ e → EndsBy (λ n x. listed cons one more n d x) s at at Bad
+    pub list-out : length s ≤ e → EndsBy (λ n x. sequence cons one more n d x) s at at Bad
     list-out k = one-read (out k (λ n. q .more-out n d))
 
-  pub list-bad : {at : ℕ} (d : ℕ) → EndsBy (λ n x. one n d x) s at at Bad → EndsBy (λ n x. listed cons one more n d x) s at at Bad
+  pub list-bad : {at : ℕ} (d : ℕ) → EndsBy (λ n x. one n d x) s at at Bad → EndsBy (λ n x. sequence cons one more n d x) s at at Bad
   list-bad d h = bind-bad (omega arith) (λ x b n y. over (cons b) (more n d y)) h
 
   -- past the opening byte
@@ -57,7 +57,7 @@ module _ {A B : Type 0} {nothing : A} {cons : B → A → A} {one : ℕ → ℕ 
         opened (first-only h (omega (arith, k .low)) nothing (λ n. q .inside-none (suc n) (d - 1) (getD s at 0) (drop (at + 1) s) (eq-eqb (getD s at 0) close b)))
 
     pub opened-some : {r : End} → at < length s → (getD s at 0 ≡ close → ⊥)
-        → EndsBy (λ n x. listed cons one more n (d - 1) x) s at at r → EndsBy (λ n x. deeper d (λ e. inside n e (ws x))) s from from r
+        → EndsBy (λ n x. sequence cons one more n (d - 1) x) s at at r → EndsBy (λ n x. deeper d (λ e. inside n e (ws x))) s from from r
     opened-some h b rest =
         opened (first-same h (omega (arith, k .low)) (λ n. q .inside-some (suc n) (d - 1) (getD s at 0) (drop (at + 1) s) (ne-eqb (getD s at 0) close b)) (earlier (k .low) rest))
 

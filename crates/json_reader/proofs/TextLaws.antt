@@ -7,13 +7,13 @@ use native.Mathlib.Omega.{arith}
 use lib.Dec.{eqb}
 use lib.ListN.{length, drop, getD, drop-of-length-le}
 use borrow.Author.Tests.{eqb-true, eqb-false, ne-eqb}
-use Rattle.json_grammar.specs.Value.{LMembers, item}
-use Rattle.json_grammar.specs.Reader.{Got, got, then, expect, ws, placedItem, ends-by}
-use Rattle.json_grammar.specs.Reader.{readObject, read}
-use Rattle.json_grammar.specs.Unique.{isGot}
+use Rattle.json_grammar_rules.specs.Value.{LMembers, item}
+use Rattle.json_grammar_rules.specs.Reader.{Got, got, then, expect, ws, placedItem, ends-by}
+use Rattle.json_grammar_rules.specs.Reader.{readObject, read}
+use Rattle.json_grammar_rules.specs.Unique.{isGot}
 use Rattle.json_string.specs.declared.End.{End}
 use Rattle.json_string.specs.declared.End.the-variants.{At, Bad}
-use Rattle.json_reader.specs.declared.values.Span.the-variants.{Found, Nowhere}
+use Rattle.json_reader.specs.declared.values.Span.the-variants.{Between, Nowhere}
 use Rattle.json_string.specs.Ends.{at-byte, pos-drop, shorter}
 use Rattle.json_tokens.specs.Tokens.{EndsBy, SkipsTo}
 use Rattle.json_reader.specs.Contracts.{ObjectEnds, AfterName, readAfterName, bareEnd, spanOf, valueSpan, isText}
@@ -23,14 +23,14 @@ use Rattle.json_reader.specs.ReadLaws.{bare-ends}
 
 -- THE PLACE OF A MEMBER'S VALUE
 
-pub span-is : {s : List ℕ} {q c f e : ℕ} (d : ℕ) → SkipsTo s q c → c < length s → getD s c 0 ≡ 0x3A → SkipsTo s (c + 1) f → At e ≡ bareEnd s f d → Found f e ≡ valueSpan s q d
+pub span-is : {s : List ℕ} {q c f e : ℕ} (d : ℕ) → SkipsTo s q c → c < length s → getD s c 0 ≡ 0x3A → SkipsTo s (c + 1) f → At e ≡ bareEnd s f d → Between f e ≡ valueSpan s q d
 unfolding valueSpan
 span-is {s} {q} {c} {f} {e} d k h b w r =
     let n = length (drop q s) in
     let o = bare-ends d r in
     let g = given o n (shorter s q f n (omega (arith, k .low, w .low)) (omega arith)) in
     let is : readAfterName n d (drop q s) ≡ got (item (drop f s) (drop e s) (g .0)) (ws (drop e s)) = rw (k .is, at-byte s c h, b) (placed-at d w n ∙ ap (placedItem (drop f s)) (g .1)) in
-    ap₂ Found (sym (pos-drop s f (omega (arith, bounds o .0, bounds o .1)))) (sym (pos-drop s e (bounds o .1))) ∙ ap (spanOf s) (sym is)
+    ap₂ Between (sym (pos-drop s f (omega (arith, bounds o .0, bounds o .1)))) (sym (pos-drop s e (bounds o .1))) ∙ ap (spanOf s) (sym is)
 
 pub span-none : {s : List ℕ} {q : ℕ} (d : ℕ) → AfterName s q d Bad → Nowhere ≡ valueSpan s q d
 unfolding valueSpan

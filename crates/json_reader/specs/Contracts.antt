@@ -1,20 +1,21 @@
--- What the contracts say: where the readers of `json_grammar`'s Reader, started at a place of a slice, end.
+-- What the contracts say: where the readers of `json_grammar_rules`'s Reader, started at a place of a slice, end.
 use mathlib.Core.Path.{_≡_}
 use mathlib.Core.Bool.{Bool}
 use mathlib.Core.List.{List}
 use Prim.Native.Nat.{ℕ, zero, suc, _≤_, _<_, _+_}
 use lib.ListN.{length, drop, getD}
-use Rattle.json_grammar.specs.Value.{LValue, LItem, LItems, item, plain}
-use Rattle.json_grammar.specs.Places.{Kind, stringK, numberK, trueK, falseK, nullK, arrayK, objectK, kindOf, pos}
-use Rattle.json_grammar.specs.Reader.{Got, bad, got, expect, ws}
-use Rattle.json_grammar.specs.Reader.{ValueLead, quoteLead, bracketLead, braceLead, trueLead, falseLead, nullLead, numberLead, valueLead}
-use Rattle.json_grammar.specs.Reader.{deeper, readValue, readObject, read}
-use Rattle.json_grammar.specs.Levels.{readBare, readInArray}
-pub use Rattle.json_grammar.specs.Levels.{readElements, readMember, readMembers}
-use Rattle.json_grammar.specs.Unique.{isGot}
+use Rattle.json_grammar_rules.specs.Value.{LValue, LItem, LItems, item, plain}
+use Rattle.json_grammar_rules.specs.declared.Kind.{Kind}
+use Rattle.json_grammar_rules.specs.Places.{kindOf, pos}
+use Rattle.json_grammar_rules.specs.Reader.{Got, bad, got, expect, ws}
+use Rattle.json_grammar_rules.specs.Reader.{ValueLead, quoteLead, bracketLead, braceLead, trueLead, falseLead, nullLead, numberLead, valueLead}
+use Rattle.json_grammar_rules.specs.Reader.{deeper, readValue, readObject, read}
+use Rattle.json_grammar_rules.specs.Levels.{readBare, readInArray}
+pub use Rattle.json_grammar_rules.specs.Levels.{readElements, readMember, readMembers}
+use Rattle.json_grammar_rules.specs.Unique.{isGot}
 use Rattle.json_string.specs.declared.End.{End}
 use Rattle.json_reader.specs.declared.values.Span.{Span}
-use Rattle.json_reader.specs.declared.values.Span.the-variants.{Found, Nowhere}
+use Rattle.json_reader.specs.declared.values.Span.the-variants.{Between, Nowhere}
 use Rattle.json_string.specs.Ends.{endOf}
 use Rattle.json_tokens.specs.Tokens.{EndsBy}
 
@@ -68,17 +69,17 @@ AfterName s from d r = EndsBy (λ n x. readAfterName n d x) s from from r
 
 -- the kind of a value, by its first byte
 unfoldable pub kindBy : ValueLead → Kind
-kindBy quoteLead = stringK
-kindBy bracketLead = arrayK
-kindBy braceLead = objectK
-kindBy trueLead = trueK
-kindBy falseLead = falseK
-kindBy nullLead = nullK
-kindBy numberLead = numberK
+kindBy quoteLead = Kind.String
+kindBy bracketLead = Kind.Array
+kindBy braceLead = Kind.Object
+kindBy trueLead = Kind.True
+kindBy falseLead = Kind.False
+kindBy nullLead = Kind.Null
+kindBy numberLead = Kind.Number
 
 -- the place of the value that a reader gives, from its first byte to the place after its last
 abbrev pub spanOf : List ℕ → Got LItem → Span
-spanOf s (got (item a b v) y) = Found (pos s a) (pos s b)
+spanOf s (got (item a b v) y) = Between (pos s a) (pos s b)
 spanOf s bad = Nowhere
 
 -- of the value after a name whose closing quotation mark is before q

@@ -4,18 +4,18 @@ use mathlib.Core.List.{List, [], _∷_}
 use Prim.Native.Nat.{ℕ, zero, suc, _≤_, _<_, _+_}
 use native.Mathlib.Omega.{arith}
 use lib.ListN.{length, drop, getD}
-use Rattle.json_grammar.specs.Value.{LValue, LItem, item}
-use Rattle.json_grammar.specs.Places.{pos}
-use Rattle.json_grammar.specs.Reader.{Got, bad, got, ws, readValue}
-use Rattle.json_grammar.specs.ReaderLaws.{no-bad, expect-inv}
-use Rattle.json_grammar.specs.Written.{value}
-use Rattle.json_grammar.specs.Sound.{bare-found}
-use Rattle.json_grammar.specs.Endings.{Ending, shorter-ending, at-ending, ending-of, ending-drop, ending-byte, ending-ws, yield-leaves, value-read}
-use Rattle.json_grammar.specs.Fuel.{Steady, one-same, value-fuel, bare-fuel, members-steady}
+use Rattle.json_grammar_rules.specs.Value.{LValue, LItem, item}
+use Rattle.json_grammar_rules.specs.Places.{pos}
+use Rattle.json_grammar_rules.specs.Reader.{Got, bad, got, ws, readValue}
+use Rattle.json_grammar_rules.specs.ReaderLaws.{no-bad, expect-inv}
+use Rattle.json_grammar_rules.specs.Written.{value}
+use Rattle.json_grammar_rules.specs.Sound.{bare-found}
+use Rattle.json_grammar_rules.specs.Endings.{Ending, shorter-ending, at-ending, ending-of, ending-drop, ending-byte, ending-ws, yield-leaves, value-read}
+use Rattle.json_grammar_rules.specs.Fuel.{Steady, one-same, value-fuel, bare-fuel, members-steady}
 use Rattle.json_string.specs.declared.End.{End}
 use Rattle.json_string.specs.Ends.{at-byte}
 use Rattle.json_tokens.specs.EndsLaws.{earlier, ends-of, is-end}
-use Rattle.json_reader.specs.declared.values.Span.the-variants.{Found, Nowhere}
+use Rattle.json_reader.specs.declared.values.Span.the-variants.{Between, Nowhere}
 use Rattle.json_reader.specs.Contracts.{readTrimmed, readAfterName, BareEnds, bareEnd, MembersEnd, memberListEnd, spanOf, valueSpan, Spanned}
 use Rattle.json_reader.specs.ValueLaws.{trimmed-kind, no-trimmed}
 
@@ -79,11 +79,11 @@ module _ (s : List ℕ) (q d n : ℕ) (l : length (drop q s) ≤ n) where
         kind = trimmed-kind (suc (r .below)) d (getD s (pos s a) 0) (drop (pos s a + 1) s) (ap (readTrimmed (suc (r .below)) d) (sym (at-byte s (pos s a) h) ∙ f) ∙ r .reads);
       }
 
-  pub span-found : {f e : ℕ} → Found f e ≡ valueSpan s q d → Spanned s q f e d n
+  pub span-between : {f e : ℕ} → Between f e ≡ valueSpan s q d → Spanned s q f e d n
   unfolding valueSpan
-  span-found {f} {e} c = go (readAfterName n d (drop q s)) refl (c ∙ ap (spanOf s) (sym after-fuel))
+  span-between {f} {e} c = go (readAfterName n d (drop q s)) refl (c ∙ ap (spanOf s) (sym after-fuel))
     where
-      go : (g : Got LItem) → readAfterName n d (drop q s) ≡ g → Found f e ≡ spanOf s g → Spanned s q f e d n
+      go : (g : Got LItem) → readAfterName n d (drop q s) ≡ g → Between f e ≡ spanOf s g → Spanned s q f e d n
       go bad k z = let w : _≡_ {A = ℕ} 0 1 = cc in absurd (omega arith)
       go (got (item a b v) y) k z =
           let p : pos s a ≡ f = cc in

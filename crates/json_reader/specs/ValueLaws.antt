@@ -5,11 +5,11 @@ use Prim.Native.Nat.{ℕ, zero, suc}
 use native.Mathlib.Omega.{arith}
 use lib.ListN.{drop}
 use borrow.Author.Tests.{ne-eqb}
-use Rattle.json_grammar.specs.Value.{LValue, plain}
-use Rattle.json_grammar.specs.Places.{kindOf}
-use Rattle.json_grammar.specs.Reader.{Got, bad, got, over, ws, word, placedItem, readChars, readNumber}
-use Rattle.json_grammar.specs.Reader.{ValueLead, quoteLead, bracketLead, braceLead, trueLead, falseLead, nullLead, numberLead, valueLead}
-use Rattle.json_grammar.specs.Reader.{value-by, readValue, readMoreElements, readMoreMembers, readObject}
+use Rattle.json_grammar_rules.specs.Value.{LValue, plain}
+use Rattle.json_grammar_rules.specs.Places.{kindOf}
+use Rattle.json_grammar_rules.specs.Reader.{Got, bad, got, over, ws, word, placedItem, readChars, readNumber}
+use Rattle.json_grammar_rules.specs.Reader.{ValueLead, quoteLead, bracketLead, braceLead, trueLead, falseLead, nullLead, numberLead, valueLead}
+use Rattle.json_grammar_rules.specs.Reader.{value-by, readValue, readMoreElements, readMoreMembers, readObject}
 use Rattle.json_tokens.specs.Tokens.{SkipsTo}
 use Rattle.json_reader.specs.Contracts.{readTrimmed, readArray, kindBy}
 

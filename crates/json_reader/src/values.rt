@@ -54,7 +54,7 @@ pub fn bare(s: &[u8], at: usize, depth: usize) -> End
 
 // A part of a text, from its first byte to the place after its last; or none.
 pub enum Span {
-    Found(usize, usize),
+    Between(usize, usize),
     Nowhere,
 }
 
@@ -72,7 +72,7 @@ pub fn value_span(s: &[u8], q: usize, depth: usize) -> Span
     }
     let from = skip_ws(s, colon + 1);
     match bare(s, from, depth) {
-        End::At(to) => Span::Found(from, to),
+        End::At(to) => Span::Between(from, to),
         End::Bad => Span::Nowhere,
     }
 }

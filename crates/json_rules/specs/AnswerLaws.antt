@@ -1,17 +1,17 @@
 -- Laws of a header that is not refused, for the proofs of code that reads it.
 use mathlib.Core.Path.{_≡_, refl}
-use mathlib.Core.Bool.{Bool, true, false, not}
-use mathlib.Core.List.{List, [], _∷_}
+use mathlib.Core.Bool.{true}
+use mathlib.Core.List.{List}
 use Prim.Native.Nat.{ℕ}
 use native.Mathlib.Omega.{arith}
-use lib.Dec.{ltb}
-use lib.ListN.{length}
-use Rattle.common.specs.First.{_when_, first}
-use Rattle.json_grammar.specs.Value.{LMembers}
-use Rattle.json_grammar.specs.Reader.{Got, bad, got, read}
-use Rattle.json_grammar.specs.Unique.{isGot}
-use Rattle.json_rules.specs.Rules.{longest, deepest}
-use Rattle.json_rules.specs.Answers.{membersIn, twiceIn, grammarTests, headerTests, checked}
+use borrow.Author.Tests.{not-false}
+use Rattle.common.specs.First.{first}
+use Rattle.common.specs.FirstLaws.{all-pass, passed}
+use Rattle.json_grammar_rules.specs.Value.{LMembers}
+use Rattle.json_grammar_rules.specs.Reader.{Got, bad, got, read}
+use Rattle.json_grammar_rules.specs.Unique.{isGot}
+use Rattle.json_rules.specs.Rules.{deepest}
+use Rattle.json_rules.specs.Answers.{grammarTests, headerTests, checked}
 
 -- what is read, of a text
 pub text-read : (d : ℕ) (h : List ℕ) → isGot (read d h) ≡ true → (ms : LMembers) × (x : List ℕ) × (read d h ≡ got ms x)
@@ -23,17 +23,9 @@ text-read d h e = go (read d h) refl e
 
 -- a text that is not refused is read
 pub grammar-read : (d : ℕ) (h : List ℕ) → first (grammarTests d h) ≡ 0 → (ms : LMembers) × (x : List ℕ) × (read d h ≡ got ms x)
-grammar-read d h e = text-read d h (fine (isGot (read d h)) (twiceIn (membersIn (read d h))) e)
-  where
-    fine : (b c : Bool) → first (7 when not b ∷ 8 when c ∷ []) ≡ 0 → b ≡ true
-    fine true c k = refl
-    fine false c k = absurd (omega arith)
+grammar-read d h e = text-read d h (not-false (isGot (read d h)) (passed (grammarTests d h) (all-pass (grammarTests d h) refl e) 7))
 
 -- .. and so is a header
 pub checked-read : (h : List ℕ) → checked h ≡ 0 → (ms : LMembers) × (x : List ℕ) × (read deepest h ≡ got ms x)
 unfolding checked headerTests
-checked-read h e = grammar-read deepest h (short (ltb longest (length h)) e)
-  where
-    short : (b : Bool) → first (5 when b ∷ grammarTests deepest h) ≡ 0 → first (grammarTests deepest h) ≡ 0
-    short true k = absurd (omega arith)
-    short false k = k
+checked-read h e = text-read deepest h (not-false (isGot (read deepest h)) (passed (headerTests h) (all-pass (headerTests h) refl e) 7))

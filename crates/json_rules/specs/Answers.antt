@@ -1,14 +1,16 @@
 -- What a header answers, and what the member reader answers for its member k.
 use mathlib.Core.Bool.{Bool, not}
 use mathlib.Core.List.{List, [], _∷_}
+use mathlib.Core.Option.{Option, none, some}
 use Prim.Native.Nat.{ℕ, zero, suc}
 use lib.Dec.{ltb}
 use lib.ListN.{length}
 use Rattle.common.specs.First.{Test, _when_, first}
-use Rattle.json_grammar.specs.Value.{objectV, twice, LMembers, lnil, plainMembers}
-use Rattle.json_grammar.specs.Places.{Kind, stringK, numberK, trueK, falseK, nullK, arrayK, objectK, Found, no-member, found, member}
-use Rattle.json_grammar.specs.Reader.{Got, bad, got, read}
-use Rattle.json_grammar.specs.Unique.{isGot}
+use Rattle.json_grammar_rules.specs.Value.{objectV, twice, LMembers, lnil, plainMembers}
+use Rattle.json_grammar_rules.specs.declared.Kind.{Kind}
+use Rattle.json_grammar_rules.specs.Places.{MemberPlaces, member}
+use Rattle.json_grammar_rules.specs.Reader.{Got, bad, got, read}
+use Rattle.json_grammar_rules.specs.Unique.{isGot}
 use Rattle.json_rules.specs.declared.Place.{Place}
 use Rattle.json_rules.specs.declared.Member.{Member}
 use Rattle.json_rules.specs.declared.Member.the-variants.{String, Number, True, False, Null, Array, Object, Refused}
@@ -43,18 +45,18 @@ place s e = record { start = s; end = e }
 
 -- a case for each kind, with the places of the name and of the value
 abbrev pub shownBy : Kind → Place → Place → Member
-shownBy stringK n v = String n v
-shownBy numberK n v = Number n v
-shownBy trueK n v = True n v
-shownBy falseK n v = False n v
-shownBy nullK n v = Null n v
-shownBy arrayK n v = Array n v
-shownBy objectK n v = Object n v
+shownBy Kind.String n v = String n v
+shownBy Kind.Number n v = Number n v
+shownBy Kind.True n v = True n v
+shownBy Kind.False n v = False n v
+shownBy Kind.Null n v = Null n v
+shownBy Kind.Array n v = Array n v
+shownBy Kind.Object n v = Object n v
 
 -- 16: no such member
-unfoldable pub answerFor : Found → Member
-answerFor no-member = Refused 16
-answerFor (found m) = shownBy (m .kind) (place (m .nameStart) (m .nameEnd)) (place (m .valueStart) (m .valueEnd))
+unfoldable pub answerFor : Option MemberPlaces → Member
+answerFor none = Refused 16
+answerFor (some m) = shownBy (m .kind) (place (m .nameStart) (m .nameEnd)) (place (m .valueStart) (m .valueEnd))
 
 -- the header's refusal stands before the member
 unfoldable pub unlessRefused : ℕ → Member → Member
@@ -77,25 +79,25 @@ numberOf (Object n v) = 0
 numberOf (Refused x) = x
 
 -- the kind and the two places; a refusal is its number alone
-abbrev pub with-kind : Kind → Place → Place → Found
-with-kind k n v = found (record { kind = k; nameStart = n .start; nameEnd = n .end; valueStart = v .start; valueEnd = v .end })
+abbrev pub with-kind : Kind → Place → Place → Option MemberPlaces
+with-kind k n v = some (record { kind = k; nameStart = n .start; nameEnd = n .end; valueStart = v .start; valueEnd = v .end })
 
-unfoldable pub valuesOf : Member → Found
-valuesOf (String n v) = with-kind stringK n v
-valuesOf (Number n v) = with-kind numberK n v
-valuesOf (True n v) = with-kind trueK n v
-valuesOf (False n v) = with-kind falseK n v
-valuesOf (Null n v) = with-kind nullK n v
-valuesOf (Array n v) = with-kind arrayK n v
-valuesOf (Object n v) = with-kind objectK n v
-valuesOf (Refused x) = no-member
+unfoldable pub valuesOf : Member → Option MemberPlaces
+valuesOf (String n v) = with-kind Kind.String n v
+valuesOf (Number n v) = with-kind Kind.Number n v
+valuesOf (True n v) = with-kind Kind.True n v
+valuesOf (False n v) = with-kind Kind.False n v
+valuesOf (Null n v) = with-kind Kind.Null n v
+valuesOf (Array n v) = with-kind Kind.Array n v
+valuesOf (Object n v) = with-kind Kind.Object n v
+valuesOf (Refused x) = none
 
 -- the kinds are numbered 1 to 7, in the specification's order
 unfoldable pub kindNumber : Kind → ℕ
-kindNumber stringK = 1
-kindNumber numberK = 2
-kindNumber trueK = 3
-kindNumber falseK = 4
-kindNumber nullK = 5
-kindNumber arrayK = 6
-kindNumber objectK = 7
+kindNumber Kind.String = 1
+kindNumber Kind.Number = 2
+kindNumber Kind.True = 3
+kindNumber Kind.False = 4
+kindNumber Kind.Null = 5
+kindNumber Kind.Array = 6
+kindNumber Kind.Object = 7

@@ -3,6 +3,7 @@ use mathlib.Core.Path.{_≡_, refl, sym, ap, _∙_, subst}
 use mathlib.Core.Logic.{_↔_, _⊎_, inl, inr, ⊎-elim}
 use mathlib.Core.Bool.{Bool, true, false, not, _||_}
 use mathlib.Core.List.{List, [], _∷_, _++_}
+use mathlib.Core.Option.{Option, none, some}
 use Prim.Native.Nat.{ℕ, zero, suc, _≤_, _<_}
 use native.Mathlib.Omega.{arith}
 use lib.Dec.{ltb, eqb}
@@ -10,18 +11,19 @@ use lib.ListN.{length}
 use borrow.Author.Tests.{ltb-false, ne-eqb}
 use Rattle.common.specs.Decided.{test-false}
 use Rattle.common.specs.First.{Test, _when_, first, among, condition, earlier, NoneOf, Decides, holds, fails, Agree, done, _by_}
-use Rattle.common.specs.FirstLaws.{first-stands, none-stands, in-range, agree-append, decides-lt, decides-not, decides-iff, stable}
-use Rattle.json_grammar.specs.Twice.{TwiceNamed}
-use Rattle.json_grammar.specs.TwiceLaws.{decides-twice}
-use Rattle.json_grammar.specs.Value.{Members, objectV, LMembers, lnil, lcons, named, plain, plainMembers}
-use Rattle.json_grammar.specs.Grammar.{Derivation, Derived, bytes, readingOf, depthOf, membersOf}
-use Rattle.json_grammar.specs.Places.{Kind, stringK, numberK, trueK, falseK, nullK, arrayK, objectK, Found, no-member, found, placed, member}
-use Rattle.json_grammar.specs.Reader.{Got, got, read}
-use Rattle.json_grammar.specs.Readings.{plain-of}
-use Rattle.json_grammar.specs.Complete.{complete}
-use Rattle.json_grammar.specs.Unique.{isGot, one-reading, read-decides}
-use Rattle.json_grammar.specs.Shown.{Shows}
-use Rattle.json_grammar.specs.ShownLaws.{shown}
+use Rattle.common.specs.FirstLaws.{first-stands, none-stands, in-range, agree-append, decides-lt, decides-not, decides-iff, stable, not-on}
+use Rattle.json_grammar_rules.specs.Twice.{TwiceNamed}
+use Rattle.json_grammar_rules.specs.TwiceLaws.{decides-twice}
+use Rattle.json_grammar_rules.specs.Value.{Members, objectV, LMembers, lnil, lcons, named, plain, plainMembers}
+use Rattle.json_grammar_rules.specs.Grammar.{Derivation, Derived, bytes, readingOf, depthOf, membersOf}
+use Rattle.json_grammar_rules.specs.declared.Kind.{Kind}
+use Rattle.json_grammar_rules.specs.Places.{MemberPlaces, placed, member}
+use Rattle.json_grammar_rules.specs.Reader.{Got, got, read}
+use Rattle.json_grammar_rules.specs.Readings.{plain-of}
+use Rattle.json_grammar_rules.specs.Complete.{complete}
+use Rattle.json_grammar_rules.specs.Unique.{isGot, one-reading, read-decides}
+use Rattle.json_grammar_rules.specs.Shown.{Shows}
+use Rattle.json_grammar_rules.specs.ShownLaws.{shown}
 use Rattle.json_rules.specs.declared.Place.{Place}
 use Rattle.json_rules.specs.declared.Member.the-variants.{Refused}
 use Rattle.json_rules.specs.Rules.{longest, deepest, NameTwice, count, NoMember, grammarRules, headerRules, memberRules}
@@ -29,9 +31,9 @@ use Rattle.json_rules.specs.Answers.{membersIn, twiceIn, grammarTests, h
 
 -- THE TESTS decide them, each where no earlier one holds
 
-abbrev missing : Found → Bool
-missing no-member = true
-missing (found m) = false
+abbrev missing : Option MemberPlaces → Bool
+missing none = true
+missing (some m) = false
 
 abbrev memberTests : List ℕ → ℕ → List Test
 memberTests h k = headerTests h ++ (16 when missing (member h k (membersIn (read deepest h))) ∷ [])
@@ -76,26 +78,26 @@ unfolding headerTests
 header-agree h = decides-lt longest (length h) by λ _. grammar-agree deepest h
 
 member-agree : (h : List ℕ) (k : ℕ) → Agree (memberRules h k) (memberTests h k)
-member-agree h k = agree-append (header-agree h) λ n. (let t = derivation deepest h (n .1 .0) in member-decides deepest h (t .0) (t .1) (t .2) k) by λ _. done
+member-agree h k = agree-append (header-agree h) λ n. (let t = derivation deepest h (not-on (headerRules h) n 7) in member-decides deepest h (t .0) (t .1) (t .2) k) by λ _. done
 
 -- THE FIRST REFUSAL STANDS
 
 shown-by : (k : Kind) (n v : Place) → (numberOf (shownBy k n v) ≡ 0) × (valuesOf (shownBy k n v) ≡ with-kind k n v)
 unfolding numberOf valuesOf
-shown-by stringK n v = (refl, refl)
-shown-by numberK n v = (refl, refl)
-shown-by trueK n v = (refl, refl)
-shown-by falseK n v = (refl, refl)
-shown-by nullK n v = (refl, refl)
-shown-by arrayK n v = (refl, refl)
-shown-by objectK n v = (refl, refl)
+shown-by Kind.String n v = (refl, refl)
+shown-by Kind.Number n v = (refl, refl)
+shown-by Kind.True n v = (refl, refl)
+shown-by Kind.False n v = (refl, refl)
+shown-by Kind.Null n v = (refl, refl)
+shown-by Kind.Array n v = (refl, refl)
+shown-by Kind.Object n v = (refl, refl)
 
-answer-number : (f : Found) → numberOf (answerFor f) ≡ first (16 when missing f ∷ [])
+answer-number : (f : Option MemberPlaces) → numberOf (answerFor f) ≡ first (16 when missing f ∷ [])
 unfolding answerFor numberOf
-answer-number no-member = refl
-answer-number (found m) = shown-by (m .kind) _ _ .0
+answer-number none = refl
+answer-number (some m) = shown-by (m .kind) _ _ .0
 
-number-is : (a b c : Bool) (f : Found)
+number-is : (a b c : Bool) (f : Option MemberPlaces)
     → numberOf (unlessRefused (first (5 when a ∷ 7 when b ∷ 8 when c ∷ [])) (answerFor f)) ≡ first (5 when a ∷ 7 when b ∷ 8 when c ∷ 16 when missing f ∷ [])
 unfolding unlessRefused numberOf
 number-is true b c f = refl
@@ -144,16 +146,16 @@ fine-number false true c m e = absurd (⊎-elim (λ z. omega arith) (λ z. omega
 fine-number false false true m e = absurd (⊎-elim (λ z. omega arith) (λ z. omega arith) e)
 fine-number false false false m e = refl
 
-either-number : (f : Found) {x : ℕ} → x ≡ first (16 when missing f ∷ []) → (x ≡ 0) ⊎ (x ≡ 16)
-either-number no-member e = inr e
-either-number (found m) e = inl e
+either-number : (f : Option MemberPlaces) {x : ℕ} → x ≡ first (16 when missing f ∷ []) → (x ≡ 0) ⊎ (x ≡ 16)
+either-number none e = inr e
+either-number (some m) e = inl e
 
 -- WHAT AN ANSWER SAYS
 
-values-are : (f : Found) → valuesOf (answerFor f) ≡ f
+values-are : (f : Option MemberPlaces) → valuesOf (answerFor f) ≡ f
 unfolding answerFor valuesOf
-values-are no-member = refl
-values-are (found m) = shown-by (m .kind) (place (m .nameStart) (m .nameEnd)) (place (m .valueStart) (m .valueEnd)) .1
+values-are none = refl
+values-are (some m) = shown-by (m .kind) (place (m .nameStart) (m .nameEnd)) (place (m .valueStart) (m .valueEnd)) .1
 
 module _ (h : List ℕ) where
   past-all : (ms : LMembers) (k : ℕ) → count (plainMembers ms) ≤ k → answerFor (member h k ms) ≡ Refused 16
@@ -192,7 +194,10 @@ too-long h l k = refused h 4 (header-first h 5 refl .1 (l, tt)) k
 
 -- a header that no rule refuses
 derived-once : (h : List ℕ) → NoneOf (headerRules h) → DerivedOnce h
-derived-once h n = let t = derivation deepest h (n .1 .0) in (t .0, t .1, t .2, λ e. n .1 .1 .0 (t .0, t .1, e))
+derived-once h n =
+    let no = not-on (headerRules h) n in
+    let t = derivation deepest h (no 7) in
+    (t .0, t .1, t .2, λ e. no 8 (t .0, t .1, e))
 
 module _ (h : List ℕ) (l : length h ≤ longest) where
   short : longest < length h → ⊥
@@ -226,7 +231,7 @@ module _ (h : List ℕ) (l : length h ≤ longest) where
     member-values = ap valuesOf member-is ∙ values-are (member h k (membersOf t))
 
     pub member-shows : Shows h (valuesOf (memberOf h k)) (readingOf t) k
-    member-shows = subst (λ (f : Found). Shows h f (readingOf t) k) (sym member-values) (subst (λ (x : List ℕ). Shows x (member x k (membersOf t)) (readingOf t) k) p (shown t k))
+    member-shows = subst (λ (f : Option MemberPlaces). Shows h f (readingOf t) k) (sym member-values) (subst (λ (x : List ℕ). Shows x (member x k (membersOf t)) (readingOf t) k) p (shown t k))
 
     pub member-past : count (readingOf t) ≤ k → memberOf h k ≡ Refused 16
     member-past c = member-is ∙ past-all h (membersOf t) k (subst (λ (ms : Members). count ms ≤ k) (sym (plain-of t)) c)
@@ -253,7 +258,7 @@ unread h r = go (checked h) refl
     is-read : checked h ≡ 0 → Read h
     is-read e =
         let n = header-none h .0 e in
-        read-exactly h (ltb-false longest (length h) (test-false (decides-lt longest (length h)) (n .0))) .1 (derived-once h n)
+        read-exactly h (ltb-false longest (length h) (test-false (decides-lt longest (length h)) (not-on (headerRules h) n 5))) .1 (derived-once h n)
 
     go : (c : ℕ) → checked h ≡ c → (n : ℕ) × (among n (5 ∷ 7 ∷ 8 ∷ []) ≡ true) × ((k : ℕ) → memberOf h k ≡ Refused n)
     go zero e = absurd (r (is-read e))

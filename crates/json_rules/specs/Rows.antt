@@ -7,12 +7,12 @@ use lib.ListN.{length}
 use Prim.Native.String.{String}
 use Rattle.common.specs.Same.{same}
 use Rattle.common.specs.Ascii.{ascii}
-use Rattle.json_grammar.specs.Bytes.{within, isWs, isDigit, isDigit19, isE, isSign, isHex, hexVal, allHex, hex4, isTail, code2, code3, code4, isHigh, isLow, isSurrogate, pairCode}
-use Rattle.json_grammar.specs.Value.{among, repeated, names, twice, plain}
-use Rattle.json_grammar.specs.Grammar.{Derivation, bytes, readingOf}
-use Rattle.json_grammar.specs.Places.{kindOf, pos, margin, placed, member}
-use Rattle.json_grammar.specs.Reader.{read, readValue, readChars, readChar, charLead, escapeLeadOf, isUnescaped1, pastNumber, word, valueLead, skip}
-use Rattle.json_grammar.specs.Unique.{one-reading}
+use Rattle.json_grammar_rules.specs.Bytes.{within, isWs, isDigit, isDigit19, isE, isSign, isHex, hexVal, allHex, hex4, isTail, code2, code3, code4, isHigh, isLow, isSurrogate, pairCode}
+use Rattle.json_grammar_rules.specs.Value.{among, repeated, names, twice, plain}
+use Rattle.json_grammar_rules.specs.Grammar.{Derivation, bytes, readingOf}
+use Rattle.json_grammar_rules.specs.Places.{kindOf, pos, margin, placed, member}
+use Rattle.json_grammar_rules.specs.Reader.{read, readValue, readChars, readChar, charLead, escapeLeadOf, isUnescaped1, pastNumber, word, valueLead, skip}
+use Rattle.json_grammar_rules.specs.Unique.{one-reading}
 use Rattle.json_rules.specs.declared.Member.{Member}
 use Rattle.json_rules.specs.declared.Member.the-variants.{Refused, Array}
 use Rattle.json_rules.specs.declared.Member.the-variants.{String as Text}

@@ -4,9 +4,9 @@ use mathlib.Core.List.{List, [], _∷_, _++_}
 use Prim.Native.Nat.{ℕ, suc, _≤_, _<_}
 use lib.ListN.{length}
 use Rattle.common.specs.First.{Rule, _on_}
-use Rattle.json_grammar.specs.Twice.{TwiceNamed}
-use Rattle.json_grammar.specs.Value.{Members, mnil, mcons, objectV}
-use Rattle.json_grammar.specs.Grammar.{Derivation, Derived, bytes, readingOf}
+use Rattle.json_grammar_rules.specs.Twice.{TwiceNamed}
+use Rattle.json_grammar_rules.specs.Value.{Members, mnil, mcons, objectV}
+use Rattle.json_grammar_rules.specs.Grammar.{Derivation, Derived, bytes, readingOf}
 
 -- Rule 5: "At most 1,024 bytes". Rule 7: "The top object counts as depth 1, each array or object within another adds 1, and 8 is the most."
 abbrev pub longest : ℕ

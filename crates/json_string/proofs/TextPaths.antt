@@ -10,7 +10,7 @@ use borrow.Author.Tests.{eq-eqb, ne-eqb, eqb-true, eqb-false}
 use Rattle.common.specs.Decided.{test-false}
 use Rattle.common.specs.Same.{same}
 use Rattle.common.specs.SameLaws.{decides-same}
-use Rattle.json_grammar.specs.Reader.{Got, bad, got, over}
+use Rattle.json_grammar_rules.specs.Reader.{Got, bad, got, over}
 use Rattle.json_string.specs.declared.End.{End}
 use Rattle.json_string.specs.declared.End.the-variants.{At, Bad}
 use Rattle.json_characters.specs.declared.Scan.the-variants.{Code}

@@ -6,7 +6,7 @@ use native.Mathlib.Omega.{arith}
 use lib.ListN.{length, drop, getD, length-append, replicate}
 use borrow.Author.Tests.{le-leb, lt-leb}
 use Rattle.common.specs.Buffer.{Front}
-use Rattle.json_grammar.specs.Reader.{Got, bad, got, over}
+use Rattle.json_grammar_rules.specs.Reader.{Got, bad, got, over}
 use Rattle.json_string.specs.declared.End.{End}
 use Rattle.json_string.specs.declared.End.the-variants.{At, Bad}
 use Rattle.json_characters.specs.declared.Scan.the-variants.{Code}

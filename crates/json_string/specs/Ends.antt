@@ -4,9 +4,9 @@ use mathlib.Core.List.{List}
 use Prim.Native.Nat.{ℕ, _+_, _≤_, _<_}
 use native.Mathlib.Omega.{arith}
 use lib.ListN.{length, drop, length-drop}
-use Rattle.json_grammar.specs.Places.{pos}
-use Rattle.json_grammar.specs.Reader.{Got, bad, got, over}
-pub use Rattle.json_grammar.specs.ReaderLaws.{fuel}
+use Rattle.json_grammar_rules.specs.Places.{pos}
+use Rattle.json_grammar_rules.specs.Reader.{Got, bad, got, over}
+pub use Rattle.json_grammar_rules.specs.ReaderLaws.{fuel}
 pub use Rattle.json_characters.specs.Places.{at-byte, pos-drop, pos-left}
 use Rattle.json_string.specs.declared.End.{End}
 use Rattle.json_string.specs.declared.End.the-variants.{At, Bad}

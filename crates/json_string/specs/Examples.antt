@@ -5,7 +5,7 @@ use mathlib.Core.List.{[], _∷_}
 use Rattle.common.specs.Ascii.{ascii}
 use Rattle.common.specs.Ranges.{within}
 use Rattle.common.specs.Same.{same}
-use Rattle.json_grammar.specs.Reader.{isUnescaped1, charLead, readChar, readChars}
+use Rattle.json_grammar_rules.specs.Reader.{isUnescaped1, charLead, readChar, readChars}
 use Rattle.json_characters.specs.Utf8.{utf8, octets}
 use Rattle.json_string.specs.declared.Resolved.the-variants.{Bytes, Nothing}
 use Rattle.json_string.specs.Strings.{textAt, textIs, sameText, mixAll, mixedAt, fingerprintAt, resolved, resolvedTo, resolvedAt, resolvedToAt}

@@ -3,5 +3,6 @@ pub mod Ends
 pub mod Strings
 pub mod TextLaws
 pub mod StringLaws
+pub mod WordLaws
 pub mod Steps
 pub mod Examples

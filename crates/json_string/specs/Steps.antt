@@ -5,7 +5,7 @@ use mathlib.Core.List.{List, _++_}
 use Prim.Native.Nat.{ℕ, _≤_, _<_}
 use lib.ListN.{length, drop}
 use Rattle.common.specs.Same.{same}
-use Rattle.json_grammar.specs.Reader.{Got, bad, got}
+use Rattle.json_grammar_rules.specs.Reader.{Got, bad, got}
 use Rattle.json_characters.specs.Utf8.{octets, utf8}
 use Rattle.json_string.specs.Strings.{textAt}
 use Rattle.json_string.specs.declared.End.{End}

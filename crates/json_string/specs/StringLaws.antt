@@ -5,10 +5,10 @@ use Prim.Native.Nat.{ℕ}
 use native.Mathlib.Omega.{arith}
 use lib.ListN.{length, drop}
 use Rattle.common.specs.Same.{same}
-use Rattle.json_grammar.specs.Reader.{Got, bad, got, readChars}
-use Rattle.json_grammar.specs.CharLaws.{chars-sound, chars-read, chars-fuel}
-use Rattle.json_grammar.specs.Endings.{ending-of, ending-byte}
-use Rattle.json_grammar.specs.Written.{chars, longer}
+use Rattle.json_grammar_rules.specs.Reader.{Got, bad, got, readChars}
+use Rattle.json_grammar_rules.specs.CharLaws.{chars-sound, chars-read, chars-fuel}
+use Rattle.json_grammar_rules.specs.Endings.{ending-of, ending-byte}
+use Rattle.json_grammar_rules.specs.Written.{chars, longer}
 use Rattle.json_string.specs.declared.End.{End}
 use Rattle.json_string.specs.Ends.{Ends, endOf, pos-left, by}
 use Rattle.json_string.specs.Strings.{stringEnd, StringEnds, NameAt, textAt, given, sameOf, sameText, mixAll, fingerprintAt, mixedAt, textIs, resolved, resolvedTo, resolvedAt, resolvedToAt}

@@ -7,7 +7,7 @@ use lib.Dec.{leb}
 use lib.ListN.{length, drop}
 use Rattle.common.specs.Buffer.{laid, cleared}
 use Rattle.common.specs.Same.{same}
-use Rattle.json_grammar.specs.Reader.{Got, bad, got, readChars}
+use Rattle.json_grammar_rules.specs.Reader.{Got, bad, got, readChars}
 use Rattle.json_string.specs.Ends.{Ends, endOf}
 use Rattle.json_characters.specs.Utf8.{utf8}
 use Rattle.json_string.specs.declared.End.{End}

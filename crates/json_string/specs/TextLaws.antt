@@ -6,8 +6,8 @@ use Prim.Native.Nat.{ℕ, zero, suc, _+_, _≤_, _<_}
 use native.Mathlib.Omega.{arith}
 use lib.ListN.{length, drop, getD, drop-of-length-le}
 use borrow.Author.Tests.{ne-eqb}
-use Rattle.json_grammar.specs.Reader.{Got, bad, got, then, over, isUnescaped1, readChar, readChars}
-use Rattle.json_grammar.specs.CharLaws.{chars-fuel}
+use Rattle.json_grammar_rules.specs.Reader.{Got, bad, got, then, over, isUnescaped1, readChar, readChars}
+use Rattle.json_grammar_rules.specs.CharLaws.{chars-fuel}
 use Rattle.json_characters.specs.declared.Scan.the-variants.{Code, Wrong}
 use Rattle.json_characters.specs.Characters.{CharAt}
 use Rattle.json_characters.specs.CharacterLaws.{char-plain, plain-quote}

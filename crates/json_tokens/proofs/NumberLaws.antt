@@ -7,8 +7,8 @@ use native.Mathlib.Omega.{arith}
 use lib.Dec.{eqb}
 use lib.ListN.{length, getD, drop-of-length-le}
 use borrow.Author.Tests.{ne-eqb}
-use Rattle.json_grammar.specs.Bytes.{within, isDigit, isDigit19, isE, isSign}
-use Rattle.json_grammar.specs.Reader.{skip, optional, then, pastDigits, pastFrac, pastExp, pastNumber}
+use Rattle.json_grammar_rules.specs.Bytes.{within, isDigit, isDigit19, isE, isSign}
+use Rattle.json_grammar_rules.specs.Reader.{skip, optional, then, pastDigits, pastFrac, pastExp, pastNumber}
 use Rattle.json_string.specs.declared.End.{End}
 use Rattle.json_string.specs.declared.End.the-variants.{At, Bad}
 use Rattle.json_string.specs.Ends.{at-byte}

@@ -6,7 +6,7 @@ use Prim.Native.Nat.{ℕ, suc, _≤_, _<_, _+_}
 use native.Mathlib.Omega.{arith}
 use lib.ListN.{length, drop, getD, drop-of-length-le}
 use borrow.Author.Tests.{eq-eqb, ne-eqb}
-use Rattle.json_grammar.specs.Reader.{skip, word}
+use Rattle.json_grammar_rules.specs.Reader.{skip, word}
 use Rattle.json_string.specs.declared.End.the-variants.{At, Bad}
 use Rattle.json_string.specs.Ends.{at-byte}
 use Rattle.json_tokens.specs.Tokens.{skipTo, wordEnd}

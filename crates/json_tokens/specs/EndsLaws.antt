@@ -5,8 +5,8 @@ use Prim.Native.Nat.{ℕ, zero, suc, _≤_, _<_, _+_, _-_}
 use native.Mathlib.Omega.{arith}
 use native.Mathlib.Numerals.{sub-one}
 use lib.ListN.{length, drop, getD, drop-of-length-le}
-use Rattle.json_grammar.specs.Reader.{Got, bad, got, then, over, deeper}
-use Rattle.json_grammar.specs.Fuel.{Steady}
+use Rattle.json_grammar_rules.specs.Reader.{Got, bad, got, then, over, deeper}
+use Rattle.json_grammar_rules.specs.Fuel.{Steady}
 use Rattle.json_string.specs.declared.End.{End}
 use Rattle.json_string.specs.declared.End.the-variants.{At, Bad}
 use Rattle.json_string.specs.Ends.{Ends, endOf, at-byte, pos-left, ends-end, ends-at, ends-bad, ends-over, ends-from, by, left, shorter, fuel}

@@ -6,13 +6,13 @@ use Prim.Native.Nat.{ℕ, suc, _+_, _≤_, _-_}
 use native.Mathlib.Omega.{arith}
 use lib.ListN.{length, drop, length-drop, length-append}
 use lib.Seq.{drop-drop, drop-append-seam}
-use Rattle.json_grammar.specs.Bytes.{isWs}
-use Rattle.json_grammar.specs.Reader.{Past, bad, got, skip, pastNumber, word}
-use Rattle.json_grammar.specs.ReaderLaws.{word-inv}
-use Rattle.json_grammar.specs.NumberLaws.{number-sound}
-use Rattle.json_grammar.specs.Written.{number}
-use Rattle.json_grammar.specs.Endings.{yield-leaves}
-use Rattle.json_grammar.specs.Fuel.{Steady}
+use Rattle.json_grammar_rules.specs.Bytes.{isWs}
+use Rattle.json_grammar_rules.specs.Reader.{Past, bad, got, skip, pastNumber, word}
+use Rattle.json_grammar_rules.specs.ReaderLaws.{word-inv}
+use Rattle.json_grammar_rules.specs.NumberLaws.{number-sound}
+use Rattle.json_grammar_rules.specs.Written.{number}
+use Rattle.json_grammar_rules.specs.Endings.{yield-leaves}
+use Rattle.json_grammar_rules.specs.Fuel.{Steady}
 use Rattle.json_string.specs.declared.End.{End}
 use Rattle.json_string.specs.Ends.{Ends}
 use Rattle.json_tokens.specs.Tokens.{skipTo, skipWs, MovesTo, SkipsTo, NumberEnds, numberEnd, WordEnds, endAt, wordEnd}

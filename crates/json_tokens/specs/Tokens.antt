@@ -1,11 +1,11 @@
--- What the contracts say: where the readers of `json_grammar`'s Reader, started at a place of a slice, end.
+-- What the contracts say: where the readers of `json_grammar_rules`'s Reader, started at a place of a slice, end.
 use mathlib.Core.Path.{_≡_}
 use mathlib.Core.Bool.{Bool}
 use mathlib.Core.List.{List}
 use Prim.Native.Nat.{ℕ, _≤_, _+_, _-_}
 use lib.ListN.{length, drop}
-use Rattle.json_grammar.specs.Bytes.{isWs}
-use Rattle.json_grammar.specs.Reader.{Got, Past, bad, got, skip, ws, pastDigits, pastInt, pastFrac, pastExp, pastUnsigned, pastNumber, word}
+use Rattle.json_grammar_rules.specs.Bytes.{isWs}
+use Rattle.json_grammar_rules.specs.Reader.{Got, Past, bad, got, skip, ws, pastDigits, pastInt, pastFrac, pastExp, pastUnsigned, pastNumber, word}
 use Rattle.json_string.specs.declared.End.{End}
 use Rattle.json_string.specs.declared.End.the-variants.{At, Bad}
 use Rattle.json_string.specs.Ends.{Ends, endOf}

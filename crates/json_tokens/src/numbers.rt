@@ -6,8 +6,8 @@ ghost use mathlib.Core.Bool.{_||_};
 ghost use Prim.Native.Nat.{_≤_, _<_};
 ghost use lib.Dec.{eqb};
 ghost use lib.ListN.{length};
-ghost use Rattle.json_grammar.specs.Bytes.{isDigit, isSign};
-ghost use Rattle.json_grammar.specs.Reader.{optional};
+ghost use Rattle.json_grammar_rules.specs.Bytes.{isDigit, isSign};
+ghost use Rattle.json_grammar_rules.specs.Reader.{optional};
 ghost use Rattle.json_tokens.specs.Tokens.{skipTo, MovesTo, DigitsEnd, IntEnds, FracEnds, ExpEnds, UnsignedEnds, numberEnd};
 
 // Whether b is x or y.

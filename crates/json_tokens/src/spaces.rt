@@ -1,6 +1,6 @@
 // White space (RFC 8259 section 2).
 ghost use mathlib.Core.Path.{_≡_};
-ghost use Rattle.json_grammar.specs.Bytes.{isWs};
+ghost use Rattle.json_grammar_rules.specs.Bytes.{isWs};
 ghost use Rattle.json_tokens.specs.Tokens.{skipWs};
 
 // Space, horizontal tab, line feed, carriage return.

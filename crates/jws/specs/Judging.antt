@@ -1,50 +1,36 @@
--- How a token t is judged with a table T: what the inner functions answer, and what the fronts of the buffers hold then.
+-- How a token is judged: what the inner functions answer, and what the fronts of the buffers hold then. q: what the call is lent.
 use mathlib.Core.Path.{_≡_}
-use mathlib.Core.Bool.{not, cond}
-use mathlib.Core.List.{List, [], _∷_, _++_}
+use mathlib.Core.Bool.{cond}
+use mathlib.Core.List.{List}
 use Prim.Native.Nat.{ℕ}
 use lib.ListN.{length, take}
-use Rattle.common.specs.First.{Test, _when_}
-use Rattle.common.specs.Same.{same}
+use Rattle.common.specs.First.{Test, first}
 use Rattle.hmac.specs.Hmac.{HMACSHA256}
-use Rattle.keytable_rules.specs.Key.{key}
-use Rattle.keytable_rules.specs.Table.{keys}
 use Rattle.jose_rules.specs.declared.Choice.{Choice}
 use Rattle.jose_rules.specs.declared.Decision.{Decision}
 use Rattle.jose_rules.specs.declared.Decision.the-variants.{Refused, Chosen}
-use Rattle.jose_rules.specs.HeaderTests.{headingTests}
 use Rattle.jws_rules.specs.declared.Verified.{Verified}
-use Rattle.jws_rules.specs.Segments.{front, back}
-use Rattle.jws_rules.specs.Token.{headerOf, payloadOf, signatureOf, sentInput, secretOf}
+use Rattle.jws_rules.specs.Calls.{VerifyCall}
+use Rattle.jws_rules.specs.Token.{headerOf, payloadOf, secretOf}
 use Rattle.jws_rules.specs.Outcomes.{recordOf, zeroRecord}
-use Rattle.jws_rules.specs.Tests.{choiceOf}
+use Rattle.jws_rules.specs.Tests.{openedTests, tokenChoice}
 use Rattle.jws_segments.specs.declared.opening.Opened.{Opened}
-use Rattle.jws_segments.specs.Opening.{segmentTests, isMac}
+use Rattle.jws_segments.specs.Opening.{isMac}
 
--- `verifyTests` from its end: 15; 7 to 15; 4 to 15
-abbrev pub macTests : List ℕ → List ℕ → List Test
-macTests t T = 15 when not (same (signatureOf t) (HMACSHA256 (secretOf T (choiceOf t T)) (sentInput t))) ∷ []
-
-abbrev pub headerTests : List ℕ → List ℕ → List Test
-headerTests t T = headingTests (headerOf t) (keys T) ++ macTests t T
-
-abbrev pub laterTests : List ℕ → List ℕ → ℕ → ℕ → List Test
-laterTests t T hr pr = segmentTests (front t) (front (back t)) (back (back t)) hr pr ++ headerTests t T
+-- rules 4 to 6, by what was opened
+abbrev pub testsOf : Opened → ℕ → ℕ → List Test
+testsOf o hr pr = openedTests (o .header .strict) (o .payload .strict) (o .signature .strict) (o .header .length) (o .payload .length) hr pr
 
 -- a refusal; and acceptance, by what was opened and chosen
 abbrev pub refusalOf : ℕ → Verified
-refusalOf n = record { answer = n; about = zeroRecord }
+refusalOf n = record { answer = n; details = zeroRecord }
 
 abbrev pub acceptanceOf : Opened → Choice → Verified
-acceptanceOf o c =
-    record {
-      answer = 0;
-      about = record { header = o .header; payload = o .payload; key = c .index; named = c .named; format = c .format; typ = c .typ; cty = c .cty };
-    }
+acceptanceOf o c = record { answer = 0; details = record { «header_length» = o .header .length; «payload_length» = o .payload .length; choice = c } }
 
 -- by the MAC of m under the secret of the chosen key
 abbrev pub concluded : Opened → Choice → List ℕ → List ℕ → Verified
-concluded o c m T = cond (isMac (o .signature) (HMACSHA256 (key (keys T) (c .index) .secret) m)) (acceptanceOf o c) (refusalOf 15)
+concluded o c m T = cond (isMac (o .signature) (HMACSHA256 (secretOf T c) m)) (acceptanceOf o c) (refusalOf 15)
 
 -- by what the header decides
 abbrev pub decidedAs : Decision → Opened → List ℕ → List ℕ → Verified
@@ -52,7 +38,11 @@ decidedAs (Refused n) o m T = refusalOf n
 decidedAs (Chosen c) o m T = concluded o c m T
 
 -- by the number that stands: a refusal; or acceptance, with header and payload at the fronts of the buffers hb and pb
-pub data Judged (t T hb pb : List ℕ) : ℕ → Verified → Type 0 where
-  refusing : {n : ℕ} → (n ≡ 0 → ⊥) → Judged t T hb pb n (refusalOf n)
-  accepting : take (length (headerOf t)) hb ≡ headerOf t → take (length (payloadOf t)) pb ≡ payloadOf t
-      → Judged t T hb pb 0 (record { answer = 0; about = recordOf (headerOf t) (payloadOf t) (choiceOf t T) })
+pub data Judged (q : VerifyCall) (hb pb : List ℕ) : ℕ → Verified → Type 0 where
+  refusing : {n : ℕ} → (n ≡ 0 → ⊥) → Judged q hb pb n (refusalOf n)
+  accepting : take (length (headerOf (q .token))) hb ≡ headerOf (q .token) → take (length (payloadOf (q .token))) pb ≡ payloadOf (q .token)
+      → Judged q hb pb 0 (record { answer = 0; details = recordOf (headerOf (q .token)) (payloadOf (q .token)) (tokenChoice q) })
+
+-- .. by the first of these tests that is true
+abbrev pub JudgedBy : (VerifyCall → List Test) → VerifyCall → List ℕ → List ℕ → Verified → Type 0
+JudgedBy tests q hb pb r = Judged q hb pb (first (tests q)) r

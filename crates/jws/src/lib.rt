@@ -2,7 +2,7 @@
 mod judging; // judging.rt: the rules of verifying, phase by phase
 
 ghost use mathlib.Core.Path.{_≡_};
-ghost use lib.ListN.{length};
+ghost use Rattle.jws_rules.specs.Calls.{verifyCall};
 ghost use Rattle.jws_rules.specs.Outcomes.{given, payload};
 ghost use Rattle.jws_rules.specs.Tests.{verified};
 pub use jws_rules::Record;
@@ -11,11 +11,11 @@ pub use jws_rules::Verified;
 // Verifies a token. Past what the record speaks of each buffer is cleared: whole on a refusal, since its record is zeros.
 // Rules out a token accepted on the first bytes of its signature, and a refusal that leaves a byte of the header behind.
 pub fn verify(token: &[u8], table: &[u8], header: &mut [u8], payload: &mut [u8]) -> Verified
-    ensures { λ r. ⌜ given r (now (header .exit)) (now (payload .exit)) ≡ verified (now (token .entry)) (now (table .entry)) (length (now (header .entry))) (length (now (payload .entry))) ⌝ }
+    ensures { λ r. ⌜ given r (now (header .exit)) (now (payload .exit)) ≡ verified (verifyCall (now (token .entry)) (now (table .entry)) (now (header .entry)) (now (payload .entry))) ⌝ }
 {
     let v = judging::judge(token, table, header, payload);
-    let n = v.about.header;
-    let m = v.about.payload;
+    let n = v.details.header_length;
+    let m = v.details.payload_length;
     common::zero(&mut header[n..]);
     common::zero(&mut payload[m..]);
     v
@@ -23,10 +23,10 @@ pub fn verify(token: &[u8], table: &[u8], header: &mut [u8], payload: &mut [u8])
 
 // The payload as a part of the buffer that verifying filled; an empty part if the record's length doesn't fit.
 // Rules out the header's length in its place, and a payload that fills the buffer refused.
-pub fn payload(about: Record, buffer: &[u8]) -> &[u8]
-    ensures { λ r. ⌜ now r ≡ payload about (now (buffer .entry)) ⌝ }
+pub fn payload(details: Record, buffer: &[u8]) -> &[u8]
+    ensures { λ r. ⌜ now r ≡ payload details (now (buffer .entry)) ⌝ }
 {
-    let n = about.payload;
+    let n = details.payload_length;
     if n <= buffer.len() {
         return &buffer[0..n];
     }

@@ -1,4 +1,5 @@
 // The member reader: its answer as a number and five words.
+use answers::DONE;
 use json::Member;
 use json::Place;
 ghost use mathlib.Core.Path.{_≡_};
@@ -16,7 +17,7 @@ fn found(kind: u64, name: Place, value: Place) -> Answer
     ensures { λ r. ⌜ (r .number ≡ 0) × (r .words ≡ kind ∷ name .start ∷ name .end ∷ value .start ∷ value .end ∷ []) ⌝ }
 {
     Answer {
-        number: 0,
+        number: DONE,
         words: [
             kind,
             name.start as u64,

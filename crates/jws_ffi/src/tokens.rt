@@ -2,9 +2,9 @@
 use jws::Record;
 ghost use mathlib.Core.Path.{_≡_};
 ghost use mathlib.Core.Bool.{cond};
-ghost use lib.ListN.{length};
+ghost use Rattle.jws_rules.specs.Calls.{verifyCall, signCall};
 ghost use Rattle.jws_rules.specs.Tests.{verified, signed};
-ghost use Rattle.jws_ffi.specs.Words.{recordWords, verifyCall, verifyWords, signCall, signWords};
+ghost use Rattle.jws_ffi.specs.Words.{recordWords, verifyGives, verifyWords, signGives, signWords};
 
 fn word_of(b: bool) -> u64
     ensures { λ r. ⌜ r ≡ cond b 1 0 ⌝ }
@@ -12,20 +12,21 @@ fn word_of(b: bool) -> u64
     if b { 1 } else { 0 }
 }
 
-fn words_of(about: Record) -> [u64; 9]
-    ensures { λ r. ⌜ r ≡ recordWords about ⌝ }
+fn words_of(details: Record) -> [u64; 9]
+    ensures { λ r. ⌜ r ≡ recordWords details ⌝ }
 {
-    let named = word_of(about.named);
+    let choice = details.choice;
+    let present = word_of(choice.kid_present);
     [
-        about.header as u64,
-        about.payload as u64,
-        about.key as u64,
-        named,
-        about.format as u64,
-        about.typ.start as u64,
-        about.typ.length as u64,
-        about.cty.start as u64,
-        about.cty.length as u64,
+        details.header_length as u64,
+        details.payload_length as u64,
+        choice.key_index as u64,
+        present,
+        choice.format as u64,
+        choice.typ.start as u64,
+        choice.typ.length as u64,
+        choice.cty.start as u64,
+        choice.cty.length as u64,
     ]
 }
 
@@ -39,11 +40,11 @@ pub extern "C" fn jws_verify(
     payload: &mut [u8],
     words: &mut [u64; 9],
 ) -> u8
-    ensures { λ r. ⌜ verifyCall r (now (words .exit)) (now (header .exit)) (now (payload .exit)) ≡ verifyWords (verified (now (token .entry)) (now (table .entry)) (length (now (header .entry))) (length (now (payload .entry)))) ⌝ }
+    ensures { λ r. ⌜ verifyGives r (now (words .exit)) (now (header .exit)) (now (payload .exit)) ≡ verifyWords (verified (verifyCall (now (token .entry)) (now (table .entry)) (now (header .entry)) (now (payload .entry)))) ⌝ }
 {
     let v = jws::verify(token, table, header, payload);
-    let about = words_of(v.about);
-    *words = about;
+    let details = words_of(v.details);
+    *words = details;
     v.answer
 }
 
@@ -57,7 +58,7 @@ pub extern "C" fn jws_sign(
     token: &mut [u8],
     size: &mut u64,
 ) -> u8
-    ensures { λ r. ⌜ signCall r (now (size .exit)) (now (token .exit)) ≡ signWords (signed (now (header .entry)) (now (payload .entry)) (now (table .entry)) (length (now (token .entry)))) ⌝ }
+    ensures { λ r. ⌜ signGives r (now (size .exit)) (now (token .exit)) ≡ signWords (signed (signCall (now (header .entry)) (now (payload .entry)) (now (table .entry)) (now (token .entry)))) ⌝ }
 {
     let s = jws_signing::sign(header, payload, table, token);
     *size = s.length as u64;

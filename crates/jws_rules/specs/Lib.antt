@@ -1,8 +1,10 @@
--- Compact tokens. What a reader believes: segments, tokens, what the calls give, the rules, and the tests that the contracts cite.
+-- Compact tokens. What a reader believes: segments, tokens, what a call is lent, and the rules.
 pub mod Segments
 pub mod Token
-pub mod Outcomes
+pub mod Calls
 pub mod Rules
+-- The tests, and what the calls give: what the contracts cite.
+pub mod Outcomes
 pub mod Tests
 -- The promises, the limits on both sides, and tokens that are accepted.
 pub mod Promises

@@ -1,5 +1,5 @@
 -- The rules of verifying and of signing (RFC 7515 sections 5.2 and 5.1, in the specification's order): each condition in the specification's words
--- under its number. And what it is to be accepted.
+-- under its number, phase by phase. And what it is to be accepted.
 use mathlib.Core.Path.{_≡_}
 use mathlib.Core.Logic.{_⊎_}
 use mathlib.Core.Bool.{false}
@@ -11,66 +11,82 @@ use Rattle.common.specs.First.{Rule, _on_}
 use Rattle.base64url_rules.specs.Base64url.{strict}
 use Rattle.hmac.specs.Hmac.{HMACSHA256}
 use Rattle.json_rules.specs.Rules.{longest}
-use Rattle.keytable_rules.specs.Table.{Wellformed, keys}
-use Rattle.jose_rules.specs.Header.{heading, HeaderChoice, HeaderChooses}
+use Rattle.keytable_rules.specs.Table.{Wellformed}
+use Rattle.jose_rules.specs.declared.Choice.{Choice}
+use Rattle.jose_rules.specs.Rules.{termsOf}
+use Rattle.jose_rules.specs.Header.{joseRules, HeaderChooses}
+use Rattle.jose_rules.specs.Deciding.{deciding}
 use Rattle.jws_rules.specs.declared.Record.{Record}
+use Rattle.jws_rules.specs.Calls.{VerifyCall, SignCall}
 use Rattle.jws_rules.specs.Segments.{periods, front, back}
 use Rattle.jws_rules.specs.Token.{tokenMost, tokenOf, finishedLength, headerOf, payloadOf, signatureOf, sentInput, secretOf}
 
--- the decoded signature isn't the MAC under the secret of the key that the header chooses
-abbrev pub Differs : List ℕ → List ℕ → Type 0
-Differs t T = (c : HeaderChoice) × HeaderChooses (headerOf t) (keys T) c × (signatureOf t ≡ HMACSHA256 (secretOf T c) (sentInput t) → ⊥)
+-- VERIFYING, in the order "1 to 15"
 
--- t: the token; T: the table; hr, pr: the lengths of the buffers lent for the header and the payload. In their order: "1 to 15".
-abbrev pub verifying : List ℕ → List ℕ → ℕ → ℕ → List Rule
-verifying t T hr pr =
+-- the token, the table and the periods
+abbrev pub tokenRules : VerifyCall → List Rule
+tokenRules q =
     -- "the token has more than 16,384 bytes"
-    1 on (tokenMost < length t)
+    1 on (tokenMost < length (q .token))
     -- "the table is bad"
-    ∷ 2 on (Wellformed T → ⊥)
+    ∷ 2 on (Wellformed (q .table) → ⊥)
     -- "there are fewer than two periods, or more"
-    ∷ 3 on (periods t ≡ 2 → ⊥)
+    ∷ 3 on (periods (q .token) ≡ 2 → ⊥)
+    ∷ []
+
+-- the segments, and what they decode to
+abbrev pub segmentRules : VerifyCall → List Rule
+segmentRules q =
+    let t = q .token in
     -- "one of the three segments isn't strict"
-    ∷ 4 on ((strict (front t) ≡ false) ⊎ (strict (front (back t)) ≡ false) ⊎ (strict (back (back t)) ≡ false))
+    4 on ((strict (front t) ≡ false) ⊎ (strict (front (back t)) ≡ false) ⊎ (strict (back (back t)) ≡ false))
     -- "the header has more than 1,024 bytes"
     ∷ 5 on (longest < length (headerOf t))
     -- "a buffer can't hold what belongs in it"
-    ∷ 6 on ((hr < length (headerOf t)) ⊎ (pr < length (payloadOf t)))
-    -- 7 to 14
-    ∷ (heading (headerOf t) (keys T)
-    -- "the signature is another one": "The signature segment decodes to these 32 bytes and to nothing more or less."
-    ++ (15 on Differs t T
-    ∷ []))
+    ∷ 6 on ((q .headerRoom < length (headerOf t)) ⊎ (q .payloadRoom < length (payloadOf t)))
+    ∷ []
 
--- h: the header; p: the payload; room: the length of the buffer lent for the token. In their order: "2, 5, 7 to 14, 1 (of the token that would come out), 6".
-abbrev pub signing : List ℕ → List ℕ → List ℕ → ℕ → List Rule
-signing h p T room =
-    -- "the table is bad"
-    2 on (Wellformed T → ⊥)
-    -- "the header has more than 1,024 bytes"
-    ∷ 5 on (longest < length h)
-    -- 7 to 14
-    ∷ (heading h (keys T)
-    -- "the token has more than 16,384 bytes", "the token that would come out"
-    ++ (1 on (tokenMost < finishedLength h p)
+-- the decoded signature isn't the MAC under the secret of the key that the header chooses
+abbrev pub Differs : VerifyCall → Type 0
+Differs q =
+    (c : Choice) × HeaderChooses (headerOf (q .token)) (termsOf (q .table)) c
+    × (signatureOf (q .token) ≡ HMACSHA256 (secretOf (q .table) c) (sentInput (q .token)) → ⊥)
+
+-- the signature: "The signature segment decodes to these 32 bytes and to nothing more or less."
+abbrev pub signatureRules : VerifyCall → List Rule
+signatureRules q =
+    -- "the signature is another one"
+    15 on Differs q
+    ∷ []
+
+-- with 7 to 14, the header's, before the signature's
+abbrev pub verifying : VerifyCall → List Rule
+verifying q = tokenRules q ++ (segmentRules q ++ (joseRules (headerOf (q .token)) (termsOf (q .table)) ++ signatureRules q))
+
+-- SIGNING, in the order "2, 5, 7 to 14, 1 (of the token that would come out), 6"
+
+-- the token that would come out
+abbrev pub lengthRules : SignCall → List Rule
+lengthRules q =
+    -- "the token has more than 16,384 bytes"
+    1 on (tokenMost < finishedLength (q .header) (q .payload))
     -- "a buffer can't hold what belongs in it"
-    ∷ 6 on (room < finishedLength h p)
-    ∷ []))
+    ∷ 6 on (q .room < finishedLength (q .header) (q .payload))
+    ∷ []
 
--- what a record says of its header
-abbrev pub choiceIn : Record → HeaderChoice
-choiceIn r = record { choice = record { index = r .key; named = r .named; format = r .format }; typ = r .typ; cty = r .cty }
+abbrev pub signing : SignCall → List Rule
+signing q = deciding (q .header) (q .table) ++ lengthRules q
 
--- THE TOKEN t IS ACCEPTED under the table T with the header h, the payload p and the record r; h and p fit buffers of hr and pr bytes. No decoder and no parser.
-pub record Accepted (t T : List ℕ) (hr pr : ℕ) (h p : List ℕ) (r : Record) : Type 0 where
-  pub short : length t ≤ tokenMost
-  pub table : Wellformed T
-  pub token : t ≡ tokenOf (secretOf T (choiceIn r)) h p
+-- THE TOKEN IS ACCEPTED with the header h, the payload p and the record r. No decoder and no parser.
+pub record Accepted (q : VerifyCall) (h p : List ℕ) (r : Record) : Type 0 where
+  pub short : length (q .token) ≤ tokenMost
+  pub table : Wellformed (q .table)
+  pub token : q .token ≡ tokenOf (secretOf (q .table) (r .choice)) h p
   pub header-short : length h ≤ longest
-  pub header-fits : length h ≤ hr
-  pub payload-fits : length p ≤ pr
+  pub header-fits : length h ≤ q .headerRoom
+  pub payload-fits : length p ≤ q .payloadRoom
   pub payload-bytes : Bytes p
   -- derived within the depth, no name twice, the rules of its known members kept; and what it decides
-  pub header : HeaderChooses h (keys T) (choiceIn r)
-  pub header-length : r .header ≡ length h
-  pub payload-length : r .payload ≡ length p
+  pub header : HeaderChooses h (termsOf (q .table)) (r .choice)
+  pub header-length : r .«header_length» ≡ length h
+  pub payload-length : r .«payload_length» ≡ length p

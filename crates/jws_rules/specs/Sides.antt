@@ -8,84 +8,90 @@ use native.Mathlib.Omega.{arith}
 use lib.ListN.{length}
 use Rattle.common.specs.First.{NoneOf, earlier}
 use Rattle.common.specs.FirstLaws.{not-on, none-right, _also_}
-use Rattle.json_grammar.specs.Reader.{skip, read}
-use Rattle.json_grammar.specs.Unique.{not-derived}
+use Rattle.json_grammar_rules.specs.Reader.{skip, read}
+use Rattle.json_grammar_rules.specs.Unique.{not-derived}
 use Rattle.base64url_rules.specs.Base64url.{encode, decode, alphabetic, unusedBits, strict}
 use Rattle.base64url_rules.specs.LengthLaws.{length-encode}
 use Rattle.hmac.specs.HmacLaws.{length-HMACSHA256}
 use Rattle.json_rules.specs.Rules.{deepest}
-use Rattle.keytable_rules.specs.Table.{Wellformed, keys}
-use Rattle.jose_rules.specs.Header.{heading}
+use Rattle.keytable_rules.specs.Table.{Wellformed}
+use Rattle.jose_rules.specs.Rules.{termsOf}
+use Rattle.jose_rules.specs.Header.{joseRules}
 use Rattle.jose_rules.specs.HeaderLaws.{header-chooses}
 use Rattle.jose_rules.specs.Promises.{distinct}
+use Rattle.jws_rules.specs.Calls.{VerifyCall, SignCall}
 use Rattle.jws_rules.specs.Segments.{periods, front, back, period}
 use Rattle.jws_rules.specs.Token.{finishedLength, headerOf, payloadOf, signatureOf}
 use Rattle.jws_rules.specs.Rules.{verifying, signing}
-use Rattle.jws_rules.specs.Tests.{choiceOf, verifyAnswer, signAnswer}
+use Rattle.jws_rules.specs.Tests.{tokenChoice, verifyAnswer, signAnswer}
 use Rattle.jws_rules.specs.RuleLaws.{before-5, before-6, before-7}
 use Rattle.jws_rules.specs.Promises.{verify-first, sign-first}
 
 -- VERIFYING
-module _ (t T : List ℕ) (hr pr : ℕ) where
+module _ (q : VerifyCall) where
   -- "tokens of 16,384 and 16,385 bytes"
-  pub token-passes : length t ≤ 16384 → verifyAnswer t T hr pr ≡ 1 → ⊥
-  token-passes k e = let x = verify-first t T hr pr 1 refl .0 e .0 in omega arith
+  pub token-passes : length (q .token) ≤ 16384 → verifyAnswer q ≡ 1 → ⊥
+  token-passes k e = let x = verify-first q 1 refl .0 e .0 in omega arith
 
-  pub token-refused : 16384 < length t → verifyAnswer t T hr pr ≡ 1
-  token-refused k = verify-first t T hr pr 1 refl .1 (k, tt)
+  pub token-refused : 16384 < length (q .token) → verifyAnswer q ≡ 1
+  token-refused k = verify-first q 1 refl .1 (k, tt)
 
   -- "headers of 1,024 bytes, which are 1,366 characters, and of 1,025"
-  pub header-passes : length (headerOf t) ≤ 1024 → verifyAnswer t T hr pr ≡ 5 → ⊥
-  header-passes k e = let x = verify-first t T hr pr 5 refl .0 e .0 in omega arith
+  pub header-passes : length (headerOf (q .token)) ≤ 1024 → verifyAnswer q ≡ 5 → ⊥
+  header-passes k e = let x = verify-first q 5 refl .0 e .0 in omega arith
 
-  pub header-refused : NoneOf (earlier (verifying t T hr pr) 5) → 1024 < length (headerOf t) → verifyAnswer t T hr pr ≡ 5
-  header-refused n k = verify-first t T hr pr 5 refl .1 (k, n)
+  pub header-refused : NoneOf (earlier (verifying q) 5) → 1024 < length (headerOf (q .token)) → verifyAnswer q ≡ 5
+  header-refused n k = verify-first q 5 refl .1 (k, n)
 
   -- "a buffer can't hold what belongs in it": where both can, `verify-room` of Promises.
-  pub header-room-refused : NoneOf (earlier (verifying t T hr pr) 6) → hr < length (headerOf t) → verifyAnswer t T hr pr ≡ 6
-  header-room-refused n k = verify-first t T hr pr 6 refl .1 (inl k, n)
+  pub header-room-refused : NoneOf (earlier (verifying q) 6) → q .headerRoom < length (headerOf (q .token)) → verifyAnswer q ≡ 6
+  header-room-refused n k = verify-first q 6 refl .1 (inl k, n)
 
-  pub payload-room-refused : NoneOf (earlier (verifying t T hr pr) 6) → pr < length (payloadOf t) → verifyAnswer t T hr pr ≡ 6
-  payload-room-refused n k = verify-first t T hr pr 6 refl .1 (inr k, n)
+  pub payload-room-refused : NoneOf (earlier (verifying q) 6) → q .payloadRoom < length (payloadOf (q .token)) → verifyAnswer q ≡ 6
+  payload-room-refused n k = verify-first q 6 refl .1 (inr k, n)
 
   -- "The signature segment decodes to these 32 bytes and to nothing more or less."
-  pub signature-refused : NoneOf (earlier (verifying t T hr pr) 15) → (length (signatureOf t) ≡ 32 → ⊥) → verifyAnswer t T hr pr ≡ 15
+  pub signature-refused : NoneOf (earlier (verifying q) 15) → (length (signatureOf (q .token)) ≡ 32 → ⊥) → verifyAnswer q ≡ 15
   signature-refused n k =
-      let known = none-right (earlier (verifying t T hr pr) 7) (heading (headerOf t) (keys T)) n in
-      let c = header-chooses (headerOf t) (keys T) (distinct T (not-on (earlier (verifying t T hr pr) 15) n 2)) known in
-      verify-first t T hr pr 15 refl .1 ((choiceOf t T, c, λ e. k (ap length e ∙ length-HMACSHA256 _ _)), n)
+      let h = headerOf (q .token) in
+      let known = none-right (earlier (verifying q) 7) (joseRules h (termsOf (q .table))) n in
+      let c = header-chooses h (termsOf (q .table)) (distinct (q .table) (not-on (earlier (verifying q) 15) n 2)) known in
+      verify-first q 15 refl .1 ((tokenChoice q, c, λ e. k (ap length e ∙ length-HMACSHA256 _ _)), n)
 
 pub header-characters : (h : List ℕ) → length h ≡ 1024 → length (encode h) ≡ 1366
 header-characters h e = rw (length-encode h, e)
 
 -- SIGNING
-module _ (h p T : List ℕ) (room : ℕ) where
-  pub sign-header-passes : length h ≤ 1024 → signAnswer h p T room ≡ 5 → ⊥
-  sign-header-passes k e = let x = sign-first h p T room 5 refl .0 e .0 in omega arith
+module _ (q : SignCall) where
+  pub sign-header-passes : length (q .header) ≤ 1024 → signAnswer q ≡ 5 → ⊥
+  sign-header-passes k e = let x = sign-first q 5 refl .0 e .0 in omega arith
 
-  pub sign-header-refused : Wellformed T → 1024 < length h → signAnswer h p T room ≡ 5
-  sign-header-refused table k = sign-first h p T room 5 refl .1 (k, (λ n. n table) also tt)
+  pub sign-header-refused : Wellformed (q .table) → 1024 < length (q .header) → signAnswer q ≡ 5
+  sign-header-refused table k = sign-first q 5 refl .1 (k, (λ n. n table) also tt)
 
   -- "1 (of the token that would come out), 6"; where the token fits its buffer: `sign-room` of Promises
-  pub sign-length-passes : finishedLength h p ≤ 16384 → signAnswer h p T room ≡ 1 → ⊥
-  sign-length-passes k e = let x = sign-first h p T room 1 refl .0 e .0 in omega arith
+  pub sign-length-passes : finishedLength (q .header) (q .payload) ≤ 16384 → signAnswer q ≡ 1 → ⊥
+  sign-length-passes k e = let x = sign-first q 1 refl .0 e .0 in omega arith
 
-  pub sign-length-refused : NoneOf (earlier (signing h p T room) 1) → 16384 < finishedLength h p → signAnswer h p T room ≡ 1
-  sign-length-refused n k = sign-first h p T room 1 refl .1 (k, n)
+  pub sign-length-refused : NoneOf (earlier (signing q) 1) → 16384 < finishedLength (q .header) (q .payload) → signAnswer q ≡ 1
+  sign-length-refused n k = sign-first q 1 refl .1 (k, n)
 
-  pub sign-room-refused : NoneOf (earlier (signing h p T room) 6) → room < finishedLength h p → signAnswer h p T room ≡ 6
-  sign-room-refused n k = sign-first h p T room 6 refl .1 (k, n)
+  pub sign-room-refused : NoneOf (earlier (signing q) 6) → q .room < finishedLength (q .header) (q .payload) → signAnswer q ≡ 6
+  sign-room-refused n k = sign-first q 6 refl .1 (k, n)
 
 -- THE SHORTEST TOKENS
-module _ (T : List ℕ) (table : Wellformed T) where
-  -- "no token at all (3) and `..` (7) with a good table"
-  pub empty-token : (hr pr : ℕ) → verifyAnswer [] T hr pr ≡ 3
-  unfolding periods
-  empty-token hr pr = verify-first [] T hr pr 3 refl .1 ((λ e. omega arith), (λ k. omega arith) also (λ n. n table) also tt)
+module _ (T : List ℕ) (table : Wellformed T) (hr pr : ℕ) where
+  abbrev of : List ℕ → VerifyCall
+  of t = record { token = t; table = T; headerRoom = hr; payloadRoom = pr }
 
-  pub two-periods : (hr pr : ℕ) → verifyAnswer (period ∷ period ∷ []) T hr pr ≡ 7
+  -- "no token at all (3) and `..` (7) with a good table"
+  pub empty-token : verifyAnswer (of []) ≡ 3
+  unfolding periods
+  empty-token = verify-first (of []) 3 refl .1 ((λ e. omega arith), (λ k. omega arith) also (λ n. n table) also tt)
+
+  pub two-periods : verifyAnswer (of (period ∷ period ∷ [])) ≡ 7
   unfolding periods front back decode strict alphabetic unusedBits read skip
-  two-periods hr pr =
-      let t = period ∷ period ∷ [] in
-      let n = before-6 t T hr pr (before-5 t T hr pr (omega arith) table refl refl refl refl) (omega arith) in
-      verify-first t T hr pr 7 refl .1 (not-derived deepest [] refl, before-7 t T hr pr n (omega arith) (omega arith))
+  two-periods =
+      let q = of (period ∷ period ∷ []) in
+      let n = before-6 q (before-5 q (omega arith) table refl refl refl refl) (omega arith) in
+      verify-first q 7 refl .1 (not-derived deepest [] refl, before-7 q n (omega arith) (omega arith))

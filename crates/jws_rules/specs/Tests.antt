@@ -1,17 +1,20 @@
--- The rules' tests, and what verifying and signing give: the definitions that the contracts cite.
-use mathlib.Core.Bool.{not, _||_}
+-- The rules' tests, phase by phase, and what verifying and signing give: the definitions that the contracts cite.
+use mathlib.Core.Bool.{Bool, not, _||_}
 use mathlib.Core.List.{List, [], _∷_, _++_}
 use Prim.Native.Nat.{ℕ, zero, suc}
 use lib.Dec.{ltb, eqb}
 use lib.ListN.{length}
 use Rattle.common.specs.First.{Test, _when_, first}
 use Rattle.common.specs.Same.{same}
-use Rattle.base64url_rules.specs.Base64url.{strict}
+use Rattle.base64url_rules.specs.Base64url.{decode, strict}
 use Rattle.hmac.specs.Hmac.{HMACSHA256}
 use Rattle.json_rules.specs.Rules.{longest}
 use Rattle.keytable_rules.specs.Table.{badTable, keys}
-use Rattle.jose_rules.specs.Header.{HeaderChoice}
-use Rattle.jose_rules.specs.HeaderTests.{headingTests, headerChoice}
+use Rattle.jose_rules.specs.declared.Choice.{Choice}
+use Rattle.jose_rules.specs.Rules.{termsOf}
+use Rattle.jose_rules.specs.HeaderTests.{joseTests, headerChoice}
+use Rattle.jose_rules.specs.Decision.{decidingTests}
+use Rattle.jws_rules.specs.Calls.{VerifyCall, SignCall}
 use Rattle.jws_rules.specs.Segments.{periods, front, back}
 use Rattle.jws_rules.specs.Token.{tokenMost, tokenOf, finishedLength, headerOf, payloadOf, signatureOf, sentInput, secretOf}
 use Rattle.jws_rules.specs.Outcomes.{VerifyOutcome, SignOutcome, recordOf, refused, accepted, unsigned, signedAs}
@@ -21,46 +24,68 @@ abbrev pub settle : {A : Type 0} → ℕ → A → (ℕ → A) → A
 settle zero good bad = good
 settle (suc n) good bad = bad (suc n)
 
--- what a token's header decides
-abbrev pub choiceOf : List ℕ → List ℕ → HeaderChoice
-choiceOf t T = headerChoice (headerOf t) (keys T)
+-- VERIFYING
 
-abbrev pub verifyTests : List ℕ → List ℕ → ℕ → ℕ → List Test
-verifyTests t T hr pr =
-    1 when ltb tokenMost (length t)
-    ∷ 2 when badTable T
-    ∷ 3 when not (eqb (periods t) 2)
-    ∷ 4 when (not (strict (front t)) || (not (strict (front (back t))) || not (strict (back (back t)))))
-    ∷ 5 when ltb longest (length (headerOf t))
-    ∷ 6 when (ltb hr (length (headerOf t)) || ltb pr (length (payloadOf t)))
-    ∷ (headingTests (headerOf t) (keys T)
-    ++ (15 when not (same (signatureOf t) (HMACSHA256 (secretOf T (choiceOf t T)) (sentInput t)))
-    ∷ []))
+-- what the token's header decides
+abbrev pub tokenChoice : VerifyCall → Choice
+tokenChoice q = headerChoice (headerOf (q .token)) (keys (q .table))
 
-unfoldable pub verified : List ℕ → List ℕ → ℕ → ℕ → VerifyOutcome
-verified t T hr pr =
-    settle (first (verifyTests t T hr pr))
-    (accepted (headerOf t) (payloadOf t) (recordOf (headerOf t) (payloadOf t) (choiceOf t T)) hr pr)
-    (λ n. refused n hr pr)
+abbrev pub tokenTests : VerifyCall → List Test
+tokenTests q = 1 when ltb tokenMost (length (q .token)) ∷ 2 when badTable (q .table) ∷ 3 when not (eqb (periods (q .token)) 2) ∷ []
 
-abbrev pub verifyAnswer : List ℕ → List ℕ → ℕ → ℕ → ℕ
-verifyAnswer t T hr pr = verified t T hr pr .gives .answer
+-- by whether the three segments are strict, and by the lengths n and m of header and payload, with buffers of hr and pr bytes
+abbrev pub openedTests : Bool → Bool → Bool → ℕ → ℕ → ℕ → ℕ → List Test
+openedTests x y z n m hr pr = 4 when (not x || (not y || not z)) ∷ 5 when ltb longest n ∷ 6 when (ltb hr n || ltb pr m) ∷ []
 
-abbrev pub signTests : List ℕ → List ℕ → List ℕ → ℕ → List Test
-signTests h p T room =
-    2 when badTable T
-    ∷ 5 when ltb longest (length h)
-    ∷ (headingTests h (keys T)
-    ++ (1 when ltb tokenMost (finishedLength h p)
-    ∷ 6 when ltb room (finishedLength h p)
-    ∷ []))
+-- of the segments themselves
+abbrev pub segmentTests : List ℕ → List ℕ → List ℕ → ℕ → ℕ → List Test
+segmentTests x y z hr pr = openedTests (strict x) (strict y) (strict z) (length (decode x)) (length (decode y)) hr pr
 
--- the token that is made
-abbrev pub made : List ℕ → List ℕ → List ℕ → List ℕ
-made h p T = tokenOf (secretOf T (headerChoice h (keys T))) h p
+abbrev pub signatureTests : VerifyCall → List Test
+signatureTests q = 15 when not (same (signatureOf (q .token)) (HMACSHA256 (secretOf (q .table) (tokenChoice q)) (sentInput (q .token)))) ∷ []
 
-unfoldable pub signed : List ℕ → List ℕ → List ℕ → ℕ → SignOutcome
-signed h p T room = settle (first (signTests h p T room)) (signedAs (made h p T) room) (λ n. unsigned n room)
+-- the header's and the signature's; those and the segments'; all
+abbrev pub fromHeader : VerifyCall → List Test
+fromHeader q = joseTests (headerOf (q .token)) (termsOf (q .table)) ++ signatureTests q
 
-abbrev pub signAnswer : List ℕ → List ℕ → List ℕ → ℕ → ℕ
-signAnswer h p T room = signed h p T room .gives .answer
+abbrev pub fromSegments : VerifyCall → List Test
+fromSegments q =
+    let t = q .token in
+    segmentTests (front t) (front (back t)) (back (back t)) (q .headerRoom) (q .payloadRoom) ++ fromHeader q
+
+abbrev pub verifyTests : VerifyCall → List Test
+verifyTests q = tokenTests q ++ fromSegments q
+
+unfoldable pub verified : VerifyCall → VerifyOutcome
+verified q =
+    settle (first (verifyTests q))
+    (accepted (headerOf (q .token)) (payloadOf (q .token)) (recordOf (headerOf (q .token)) (payloadOf (q .token)) (tokenChoice q)) q)
+    (λ n. refused n q)
+
+abbrev pub verifyAnswer : VerifyCall → ℕ
+verifyAnswer q = verified q .gives .answer
+
+-- SIGNING
+
+-- by the length n of the token that would come out, with a buffer of so many bytes
+abbrev pub lengthTests : ℕ → ℕ → List Test
+lengthTests n room = 1 when ltb tokenMost n ∷ 6 when ltb room n ∷ []
+
+abbrev pub signTests : SignCall → List Test
+signTests q = decidingTests (q .header) (q .table) ++ lengthTests (finishedLength (q .header) (q .payload)) (q .room)
+
+-- what the header decides, and the token that is made
+abbrev pub signChoice : SignCall → Choice
+signChoice q = headerChoice (q .header) (keys (q .table))
+
+abbrev pub madeBy : SignCall → Choice → List ℕ
+madeBy q c = tokenOf (secretOf (q .table) c) (q .header) (q .payload)
+
+abbrev pub made : SignCall → List ℕ
+made q = madeBy q (signChoice q)
+
+unfoldable pub signed : SignCall → SignOutcome
+signed q = settle (first (signTests q)) (signedAs (made q) (q .room)) (λ n. unsigned n (q .room))
+
+abbrev pub signAnswer : SignCall → ℕ
+signAnswer q = signed q .gives .answer

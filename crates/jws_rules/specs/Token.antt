@@ -6,7 +6,7 @@ use Rattle.base64url_rules.specs.Base64url.{encode, encodedLength, decode}
 use Rattle.hmac.specs.Hmac.{HMACSHA256}
 use Rattle.keytable_rules.specs.Key.{key}
 use Rattle.keytable_rules.specs.Table.{keys}
-use Rattle.jose_rules.specs.Header.{HeaderChoice}
+use Rattle.jose_rules.specs.declared.Choice.{Choice}
 use Rattle.jws_rules.specs.Segments.{front, back, _dot_}
 
 -- 1: "the token has more than 16,384 bytes"
@@ -44,5 +44,5 @@ abbrev pub sentInput : List ℕ → List ℕ
 sentInput t = front t dot front (back t)
 
 -- the secret of the key that a header chooses
-abbrev pub secretOf : List ℕ → HeaderChoice → List ℕ
-secretOf T c = key (keys T) (c .choice .index) .secret
+abbrev pub secretOf : List ℕ → Choice → List ℕ
+secretOf T c = key (keys T) (c .«key_index») .secret

@@ -7,9 +7,9 @@ use base64url_decoding::decode_with;
 use base64url_decoding::decoded_len;
 
 // Whether a segment is strict, and how many bytes it stands for.
-pub(crate) struct Segment {
-    pub(crate) strict: bool,
-    pub(crate) length: usize,
+pub struct Segment {
+    pub strict: bool,
+    pub length: usize,
 }
 
 // Decodes a segment into a buffer. If it is strict, and the buffer has room, its bytes are at the buffer's front.

@@ -1,15 +1,14 @@
 -- What the inner functions of signing promise.
 use mathlib.Core.Path.{_≡_}
-use mathlib.Core.List.{List, [], _∷_}
+use mathlib.Core.List.{List}
 use Prim.Native.Nat.{ℕ, _≤_}
-use lib.Dec.{ltb}
 use lib.ListN.{length, take}
 use Rattle.common.specs.Buffer.{filled}
-use Rattle.common.specs.First.{Test, _when_, first}
+use Rattle.common.specs.First.{first}
 use Rattle.jws_rules.specs.declared.Signed.{Signed}
 use Rattle.jws_rules.specs.Outcomes.{SignOutcome, signedAs, unsigned}
-use Rattle.jws_rules.specs.Tests.{settle}
-use Rattle.jws_rules.specs.Token.{tokenMost, tokenOf, finishedLength}
+use Rattle.jws_rules.specs.Tests.{settle, lengthTests}
+use Rattle.jws_rules.specs.Token.{tokenOf, finishedLength}
 
 -- a refusal's result
 abbrev pub unsignedResult : ℕ → Signed
@@ -22,10 +21,6 @@ pub record Written (outcome : SignOutcome) (token₀ : List ℕ) (r : Signed) (t
   pub within : r .length ≤ length token
   pub kept : length token ≡ length token₀
 
--- the rules on the finished length, 1 and 6
-abbrev pub lengthTests : List ℕ → List ℕ → ℕ → List Test
-lengthTests h p room = 1 when ltb tokenMost (finishedLength h p) ∷ 6 when ltb room (finishedLength h p) ∷ []
-
--- what signing gives where the header's rules and the table's don't refuse
+-- what signing gives where the header's rules and the table's don't refuse: by the rules on the finished length
 unfoldable pub finished : List ℕ → List ℕ → List ℕ → ℕ → SignOutcome
-finished secret h p room = settle (first (lengthTests h p room)) (signedAs (tokenOf secret h p) room) (λ n. unsigned n room)
+finished secret h p room = settle (first (lengthTests (finishedLength h p) room)) (signedAs (tokenOf secret h p) room) (λ n. unsigned n room)

@@ -6,13 +6,20 @@ ghost use Rattle.base64url_rules.specs.Base64url.{encode};
 ghost use Rattle.common.specs.Buffer.{laid, Front};
 ghost use Rattle.base64url_rules.specs.Tables.{characters};
 ghost use Rattle.json_rules.specs.Rules.{longest};
+ghost use Rattle.jws_rules.specs.Calls.{signCall};
 ghost use Rattle.jws_rules.specs.Segments.{_dot_};
 ghost use Rattle.jws_rules.specs.Token.{tokenOf, finishedLength};
 ghost use Rattle.jws_rules.specs.Tests.{signed};
 ghost use Rattle.jws_signing.specs.Written.{Written, unsignedResult, finished};
+use answers::BUFFER_TOO_SHORT;
+use answers::DONE;
+use answers::TOKEN_TOO_LONG;
 use jose_rules::Decision;
 use jws_rules::Signed;
 use jws_rules::TOKEN_MOST;
+
+// What a token has beside the segments of its header and payload: that of the MAC's 32 bytes, and two periods.
+const REST: usize = 45;
 
 // A further segment: a period at `at`, and then the text of the bytes. The answer is the place after it.
 fn segment(alphabet: &[u8; 64], bytes: &[u8], token: &mut [u8], at: usize) -> usize
@@ -64,31 +71,33 @@ fn finish(secret: &[u8], header: &[u8], payload: &[u8], token: &mut [u8]) -> Sig
     ensures { λ r. ⌜ Written (finished (now (secret .entry)) (now (header .entry)) (now (payload .entry)) (length (now (token .entry)))) (now (token .entry)) r (now (token .exit)) ⌝ }
 {
     if TOKEN_MOST < payload.len() {
-        return refusal(1);
+        return refusal(TOKEN_TOO_LONG);
     }
-    let n = base64url_encoding::encoded_len(header) + base64url_encoding::encoded_len(payload) + 45;
+    let n = base64url_encoding::encoded_len(header)
+        + base64url_encoding::encoded_len(payload)
+        + REST;
     if TOKEN_MOST < n {
-        return refusal(1);
+        return refusal(TOKEN_TOO_LONG);
     }
     if token.len() < n {
-        return refusal(6);
+        return refusal(BUFFER_TOO_SHORT);
     }
     compose(secret, header, payload, token);
     Signed {
-        answer: 0,
+        answer: DONE,
         length: n,
     }
 }
 
 // Decides, and writes the token at the buffer's front.
 pub(crate) fn make(header: &[u8], payload: &[u8], table: &[u8], token: &mut [u8]) -> Signed
-    ensures { λ r. ⌜ Written (signed (now (header .entry)) (now (payload .entry)) (now (table .entry)) (length (now (token .entry)))) (now (token .entry)) r (now (token .exit)) ⌝ }
+    ensures { λ r. ⌜ Written (signed (signCall (now (header .entry)) (now (payload .entry)) (now (table .entry)) (now (token .entry)))) (now (token .entry)) r (now (token .exit)) ⌝ }
 {
     let decision = jose::decide(header, table);
     match decision {
         Decision::Refused(n) => refusal(n),
         Decision::Chosen(choice) => {
-            let index = choice.index;
+            let index = choice.key_index;
             finish(keytable::secret(table, index), header, payload, token)
         }
     }

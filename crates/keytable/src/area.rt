@@ -3,14 +3,14 @@ ghost use mathlib.Core.Path.{_≡_};
 ghost use Prim.Native.Nat.{_+_, _≤_, _<_};
 ghost use lib.ListN.{length};
 ghost use Rattle.common.specs.First.{Decides};
-ghost use Rattle.keytable_rules.specs.Table.{countOf, entryAt, areaAt, part, Placed};
+ghost use Rattle.keytable_rules.specs.Table.{countOf, entryPlace, areaAt, part, Placed};
 use common::number2_at;
 use common::word8_at;
 
 // Whether the area whose offset and length stand at `at` has from `least` to `most` bytes, begins at `first`, where the entries
 // end, or later, and ends within the table.
 pub(crate) fn placed(table: &[u8], at: usize, first: usize, least: usize, most: usize) -> bool
-    requires { ⌜ (at + 3 < length (now table)) × (first ≡ entryAt (countOf (now table))) ⌝ }
+    requires { ⌜ (at + 3 < length (now table)) × (first ≡ entryPlace (countOf (now table))) ⌝ }
     ensures { λ r. ⌜ Decides (Placed (now (table .entry)) least most (areaAt (now (table .entry)) at)) r ⌝ }
 {
     let offset = number2_at(table, at) as usize;

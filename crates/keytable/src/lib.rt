@@ -9,7 +9,7 @@ ghost use mathlib.Core.Bool.{false, not};
 ghost use Prim.Native.Nat.{_+_, _≤_, _<_};
 ghost use lib.ListN.{length, getD};
 ghost use Rattle.keytable_rules.specs.Key.{key, allowsHS256, allowsFormat, find, only};
-ghost use Rattle.keytable_rules.specs.Table.{entrySize, entryAt, badTable, keys};
+ghost use Rattle.keytable_rules.specs.Table.{entrySize, entryPlace, badTable, keys};
 use crate::area::area;
 use crate::area::same;
 use crate::entries::entry_at;
@@ -80,7 +80,7 @@ pub fn secret(table: &[u8], i: usize) -> &[u8]
 // Byte k of entry i.
 fn entry_byte(table: &[u8], i: usize, k: usize) -> u8
     requires { ⌜ (badTable (now table) ≡ false) × (i < length (keys (now table))) × (k < entrySize) ⌝ }
-    ensures { λ r. ⌜ r ≡ getD (now (table .entry)) (entryAt i + k) 0 ⌝ }
+    ensures { λ r. ⌜ r ≡ getD (now (table .entry)) (entryPlace i + k) 0 ⌝ }
 {
     table[entry_at(i) + k]
 }

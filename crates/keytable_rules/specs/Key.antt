@@ -28,7 +28,7 @@ unfoldable pub allowsFormat : Key → ℕ → Bool
 allowsFormat k f = bit (k .formats) (f - 1)
 
 -- key i of a list, from 0; past the last, a key of nothing
-pub noKey : Key
+unfoldable pub noKey : Key
 noKey = record { id = []; secret = []; algorithms = 0; formats = 0 }
 
 abbrev pub key : List Key → ℕ → Key

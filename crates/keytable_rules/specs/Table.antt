@@ -57,8 +57,8 @@ abbrev pub totalOf : List ℕ → ℕ
 totalOf T = number4 T 4
 
 -- "from 8 on": "n entries of 12 bytes". Where entry i begins, and for i = n where the entries end
-abbrev pub entryAt : ℕ → ℕ
-entryAt i = headSize + entrySize * i
+abbrev pub entryPlace : ℕ → ℕ
+entryPlace i = headSize + entrySize * i
 
 -- an area of the table: its offset and its length, which stand at `at`; and its bytes
 pub record Area : Type 0 where
@@ -73,19 +73,19 @@ part T a = take (a .size) (drop (a .offset) T)
 
 -- bytes of an entry: 0, 1 and 2, 3 "where the id begins, and its length"; 4, 5 and 6, 7 "where the secret begins, and its length"; 8 "algorithms"; 9 "formats"; 10, 11 "zero"
 abbrev pub idArea : List ℕ → ℕ → Area
-idArea T i = areaAt T (entryAt i)
+idArea T i = areaAt T (entryPlace i)
 
 abbrev pub secretArea : List ℕ → ℕ → Area
-secretArea T i = areaAt T (entryAt i + 4)
+secretArea T i = areaAt T (entryPlace i + 4)
 
 abbrev pub algorithmsOf : List ℕ → ℕ → ℕ
-algorithmsOf T i = getD T (entryAt i + 8) 0
+algorithmsOf T i = getD T (entryPlace i + 8) 0
 
 abbrev pub formatsOf : List ℕ → ℕ → ℕ
-formatsOf T i = getD T (entryAt i + 9) 0
+formatsOf T i = getD T (entryPlace i + 9) 0
 
 abbrev pub zerosOf : List ℕ → ℕ → ℕ
-zerosOf T i = number2 T (entryAt i + 10)
+zerosOf T i = number2 T (entryPlace i + 10)
 
 abbrev pub idOf : List ℕ → ℕ → List ℕ
 idOf T i = part T (idArea T i)
@@ -96,7 +96,7 @@ idOf T i = part T (idArea T i)
 pub record Placed (T : List ℕ) (least most : ℕ) (a : Area) : Type 0 where
   pub long : least ≤ a .size
   pub short : a .size ≤ most
-  pub begins : entryAt (countOf T) ≤ a .offset
+  pub begins : entryPlace (countOf T) ≤ a .offset
   pub ends : a .offset + a .size ≤ length T
 
 pub record GoodEntry (T : List ℕ) (i : ℕ) : Type 0 where
@@ -133,7 +133,7 @@ abbrev pub isPlaced : List ℕ → ℕ → ℕ → Area → Bool
 isPlaced T least most a =
     leb least (a .size)
     && leb (a .size) most
-    && leb (entryAt (countOf T)) (a .offset)
+    && leb (entryPlace (countOf T)) (a .offset)
     && leb (a .offset + a .size) (length T)
 
 abbrev pub isGoodEntry : List ℕ → ℕ → Bool

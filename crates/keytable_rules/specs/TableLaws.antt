@@ -12,7 +12,7 @@ use Rattle.common.specs.FirstLaws.{decides-not, decides-le, decides-lt, decides
 use Rattle.common.specs.Decided.{when-true, decides-by}
 use Rattle.common.specs.SameLaws.{decides-same}
 use Rattle.keytable_rules.specs.Key.{key, noKey}
-use Rattle.keytable_rules.specs.Table.{entrySize, tableLeast, countOf, entryAt, Area, idOf, Placed, GoodEntry, GoodEntries, NewId, Wellformed, below, isPlaced, isGoodEntry, isNewId, isWellformed, badTable, keyOf, listed, keys}
+use Rattle.keytable_rules.specs.Table.{entrySize, tableLeast, countOf, entryPlace, Area, idOf, Placed, GoodEntry, GoodEntries, NewId, Wellformed, below, isPlaced, isGoodEntry, isNewId, isWellformed, badTable, keyOf, listed, keys}
 
 -- a test of each number below n
 decides-below : {P : ℕ → Type 0} {t : ℕ → Bool} → ((i : ℕ) → Decides (P i) (t i)) → (n : ℕ) → Decides ((i : ℕ) → i < n → P i) (below n t)
@@ -87,17 +87,17 @@ unfolding keys
 key-is T i h = getD-listed (countOf T) (keyOf T) i noKey h
 
 -- a table in order has room for its entries
-pub room : (T : List ℕ) → tableLeast ≤ length T → GoodEntries T (countOf T) → entryAt (countOf T) ≤ length T
+pub room : (T : List ℕ) → tableLeast ≤ length T → GoodEntries T (countOf T) → entryPlace (countOf T) ≤ length T
 room T l g = go (countOf T) refl
   where
-    go : (n : ℕ) → countOf T ≡ n → entryAt (countOf T) ≤ length T
+    go : (n : ℕ) → countOf T ≡ n → entryPlace (countOf T) ≤ length T
     go zero e = omega arith
     go (suc n) e = let p = g 0 (omega arith) .id in omega (arith, p .begins, p .ends)
 
 -- entry i of a table in order: it lies within the table, is good, and means key i
 pub record Entry (T : List ℕ) (i : ℕ) : Type 0 where
   pub counted : i < countOf T
-  pub within : entryAt i + entrySize ≤ length T
+  pub within : entryPlace i + entrySize ≤ length T
   pub good : GoodEntry T i
   pub means : key (keys T) i ≡ keyOf T i
 

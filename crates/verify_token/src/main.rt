@@ -1,6 +1,7 @@
 // Verifies a token: reads `table.bin` and `token.txt` in the working folder and prints one line, `accepted key=0 fmt=1 payload=70`
 // or `refused ` and the answer's number.
 ghost use Rattle.io.specs.Counts.{Counts};
+use answers::DONE;
 use jws::Verified;
 use libc::STDOUT_FILENO;
 
@@ -24,13 +25,14 @@ fn field(name: &[u8], n: usize) {
 }
 
 fn print(v: Verified) {
-    let about = v.about;
-    if v.answer != 0 {
+    let details = v.details;
+    let choice = details.choice;
+    if v.answer != DONE {
         field(b"refused ", v.answer as usize);
     } else {
-        field(b"accepted key=", about.key);
-        field(b" fmt=", about.format as usize);
-        field(b" payload=", about.payload);
+        field(b"accepted key=", choice.key_index);
+        field(b" fmt=", choice.format as usize);
+        field(b" payload=", details.payload_length);
     }
     say(b"\n");
 }

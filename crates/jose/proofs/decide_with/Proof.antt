@@ -1,18 +1,18 @@
--- `decide_with`, phase by phase.
-use borrow.Author.Needs.{needs}
-use mathlib.Core.Path.{_≡_, sym, ap, _∙_}
-use mathlib.Core.Option.{some}
-use mir.Facts.{toZ-ofZ}
+-- `decide_with`: the header is read, and its facts are judged.
+use mathlib.Core.Path.{_≡_, sym, _∙_}
+use native.Mathlib.Omega.{arith}
 use denote.Ref.{now}
 use Rattle.common.specs.First.{first}
 use Rattle.json_rules.specs.Rules.{deepest}
 use Rattle.json_rules.specs.Answers.{grammarTests}
-use Rattle.jose_rules.specs.HeaderTests.{reading}
-use Rattle.jose_rules.specs.Members.{valueOf}
-use Rattle.jose_rules.specs.Only.{absent}
-use Rattle.jose_rules.specs.Tests.{format}
-use Rattle.jose.specs.Slots.{theFmt}
-use Rattle.jose.proofs.PhaseLaws.{decision-header, decision-format, decision-members, decision-keys}
+use Rattle.json_members.specs.Members.{MembersFrom}
+use Rattle.json_members.specs.StepLaws.{top-members}
+use Rattle.keytable_rules.specs.Table.{keys}
+use Rattle.jose_rules.specs.HeaderTests.{located, headerFacts}
+use Rattle.jose_facts.specs.KnownLaws.{all-shown, some-shown, facts-from}
+use Rattle.jose_judging.specs.JudgingLaws.{key-within}
+use Rattle.jose.proofs.HeaderLaws.{inside, top-within, at-top, decision-unread, decision-judged}
+use borrow.Author.Needs.{needs}
 use Rattle.jose.proofs.decide_with.Statement.{statement}
 use Rattle.jose.proofs.decide_with.Tie as tie
 
@@ -20,42 +20,37 @@ use Rattle.jose.proofs.decide_with.Tie as tie
 fine : (c : tie.Else1) → first (grammarTests deepest (now (c .before .before .before .before .args .header))) ≡ 0
 fine c = sym (c .before .check-text .ensures) ∙ c .if1 .left
 
--- .. and its format is an integer
-number : (c : tie.After-known-told) → some (c .before .number .given .0 .0) ≡ format (reading (now (c .before .before .before .before .before .before .before .before .before .args .header)))
-number c = sym (ap valueOf (c .before .number .given .1)) ∙ c .before .before .before .format-of .ensures
+-- .. its members begin where `top_members` says, ..
+members : (c : tie.After-top-members)
+    → let h = now (c .before .before .before .before .before .args .header) in
+    MembersFrom h inside (c .top-members .result) (located h)
+members c = at-top (fine (c .before)) (top-members _ (c .top-members .ensures))
+
+-- .. and this is what they say
+facts-are : (c : tie.After-facts-of)
+    → let a = c .before .before .before .before .before .before .before .args in
+    c .facts-of .result ≡ headerFacts (now (a .header)) (keys (now (a .table)))
+facts-are c = facts-from _ (members (c .before .before)) (c .before .known-from .ensures) (c .facts-of .ensures)
 
 returns : tie.Need-returns
-returns c = decision-header _ _ (c .before .check-text .ensures) (c .if1 .taken)
+returns c = decision-unread _ _ (c .before .check-text .ensures) (c .if1 .taken)
 
-format-of-requires : tie.Need-format-of-requires
-format-of-requires c κs = c .known-members .ensures .stands theFmt
+known-from-requires : tie.Need-known-from-requires
+known-from-requires c κs = top-within (top-members _ (c .top-members .ensures))
+
+facts-of-requires : tie.Need-facts-of-requires
+facts-of-requires c κs = (c .before .before .before .before .before .before .pre, omega arith, some-shown _ (members (c .before)) (c .known-from .ensures))
+
+judge-requires : tie.Need-judge-requires
+judge-requires c κs = (c .before .before .before .before .before .before .before .before .pre, key-within _ _ (facts-are (c .before)))
 
 returns-2 : tie.Need-returns-2
-returns-2 c = decision-format _ _ (fine (c .before .before .before .before)) (sym (ap valueOf (c .enum-told .given .1)) ∙ c .before .before .format-of .ensures)
-
-members-refused-requires : tie.Need-members-refused-requires
-members-refused-requires c κs = (c .before .before .before .before .known-members .ensures, sym (ap absent (number c)))
-
-returns-3 : tie.Need-returns-3
-returns-3 c =
-    let k = c .before .before in
-    decision-members _ _ (fine (k .before .before .before .before .before)) (c .before .members-refused .ensures) (c .if2 .taken)
-
-choose-requires : tie.Need-choose-requires
-choose-requires c κs =
-    let k = c .before .before in
-    let f = k .before .before .before .before in
-    (f .before .before .before .before .before .pre, f .known-members .ensures, sym (ap some (toZ-ofZ (record { sfits = k .known-told .given .0 .1 })) ∙ number k))
-
-returns-4 : tie.Need-returns-4
-returns-4 c =
-    let e = c .before in
-    decision-keys
-    _
-    _
-    (fine (e .before .before .before .before .before .before .before))
-    (sym (e .before .members-refused .ensures) ∙ e .if2 .left)
-    (c .choose .ensures)
+returns-2 c =
+    let f = c .before .before .before in
+    let k = f .before in
+    let t = k .before in
+    c .decided .ensures
+    ∙ decision-judged _ _ (fine (t .before)) (all-shown _ (members t) (k .known-from .ensures)) (facts-are f) (c .before .before .no-facts .ensures) (c .before .judge .ensures)
 
 pub decide-with-spec : {M : Type 1} → statement M
 decide-with-spec =
@@ -64,10 +59,9 @@ decide-with-spec =
     (λ c κs. search needs)
     returns
     (λ c κs. search needs)
-    format-of-requires
-    (λ c. search needs) (λ c. search needs)
-    returns-2
-    members-refused-requires
-    returns-3
-    choose-requires
-    returns-4)
+    known-from-requires
+    facts-of-requires
+    (λ c κs. search needs)
+    judge-requires
+    (λ c κs. search needs)
+    returns-2)

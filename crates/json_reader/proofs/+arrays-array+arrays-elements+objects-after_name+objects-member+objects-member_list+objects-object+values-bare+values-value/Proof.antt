@@ -10,7 +10,7 @@ use Rattle.json_string.specs.declared.End.{End}
 use Rattle.json_reader.specs.Contracts.{ElementsEnd, MembersEnd}
 use Rattle.json_tokens.specs.EndsLaws.{ended, bounds}
 use Rattle.json_reader.proofs.CycleLaws as law
-use Rattle.json_grammar.specs.Sequences as seq
+use Rattle.json_grammar_rules.specs.Sequences as seq
 use borrow.Fn.Kinds.{In}
 use borrow.Fn.PlainCycle.{Measures, is, falls, and}
 use Rattle.json_reader.proofs.arrays.array.Reads as array

@@ -13,12 +13,12 @@ returns : tie.Need-returns
 unfolding payload
 returns c =
     let a = c .before .before .args in
-    let n : a .about .payload - 0 ≡ a .about .payload = omega arith in
-    rw (n, le-leb (a .about .payload) (length (a .buffer .now)) (omega arith))
+    let n : a .details .«payload_length» - 0 ≡ a .details .«payload_length» = omega arith in
+    rw (n, le-leb (a .details .«payload_length») (length (a .buffer .now)) (omega arith))
 
 returns-2 : tie.Need-returns-2
 unfolding payload
-returns-2 c = let a = c .before .before .args in rw (lt-leb (a .about .payload) (length (a .buffer .now)) (omega arith))
+returns-2 c = let a = c .before .before .args in rw (lt-leb (a .details .«payload_length») (length (a .buffer .now)) (omega arith))
 
 pub payload-spec : {M : Type 1} → statement M
 payload-spec =

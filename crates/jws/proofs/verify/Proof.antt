@@ -7,8 +7,9 @@ use Rattle.jws.proofs.verify.Tie as tie
 returns : tie.Need-returns
 returns c =
     let z = c .before .before .before .before .before .before in
-    let j = z .before .before .before .before .before .before .judge in
-    law.verified-is _ _ _ _ _ _ (j .ensures) (j .kept .1 .1 .0) (j .kept .1 .1 .1 .0) (z .zero .ensures) (c .before .before .zero2 .ensures)
+    let s = z .before .before .before .before .before .before in
+    let j = s .judge in
+    law.verified-is _ _ _ (j .ensures) (j .kept .1 .1 .0) (j .kept .1 .1 .1 .0) (z .zero .ensures) (c .before .before .zero2 .ensures)
 
 pub verify-spec : {M : Type 1} → statement M
 verify-spec =

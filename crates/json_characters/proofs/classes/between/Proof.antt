@@ -1,6 +1,6 @@
 -- `between` meets its contract.
 use mathlib.Core.Path.{sym}
-use Rattle.json_grammar.specs.ByteLaws.{from-low, below}
+use Rattle.json_grammar_rules.specs.ByteLaws.{from-low, below}
 use Rattle.json_characters.proofs.classes.between.Statement.{statement}
 use Rattle.json_characters.proofs.classes.between.Tie as tie
 

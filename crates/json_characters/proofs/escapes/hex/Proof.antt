@@ -5,7 +5,7 @@ use Prim.Native.Nat.{_≤_, _<_}
 use lib.ListN.{length}
 use Rattle.json_characters.specs.declared.Scan.{Scan}
 use Rattle.json_characters.specs.Steps.{ScanAt}
-use Rattle.json_grammar.specs.Reader.{readHex}
+use Rattle.json_grammar_rules.specs.Reader.{readHex}
 use Rattle.json_characters.proofs.DigitLaws.{room, room-small, room-step, digits-more, digits-not, digits-out, digits-done}
 use Rattle.json_characters.proofs.EscapeLaws.{readHexes, hex-digits}
 use Rattle.json_characters.proofs.escapes.hex.Statement.{statement}

@@ -1,8 +1,8 @@
 -- `low` meets its contract.
 use mathlib.Core.Path.{refl, sym, _∙_}
 use native.Mathlib.Omega.{arith}
-use Rattle.json_grammar.specs.Bytes.{isLow, pairCode}
-use Rattle.json_grammar.specs.Reader.{readHex}
+use Rattle.json_grammar_rules.specs.Bytes.{isLow, pairCode}
+use Rattle.json_grammar_rules.specs.Reader.{readHex}
 use Rattle.json_characters.proofs.ScanLaws.{scanned}
 use Rattle.json_characters.proofs.EscapeLaws.{pair-high, pair-low, low-short, low-no-escape, low-no-u, low-no-hex, low-is, low-not}
 use borrow.Author.Needs.{needs}

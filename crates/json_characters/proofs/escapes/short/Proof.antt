@@ -1,6 +1,6 @@
 -- `short` meets its contract.
 use mathlib.Core.Path.{refl}
-use Rattle.json_grammar.specs.Reader.{escapeLeadOf}
+use Rattle.json_grammar_rules.specs.Reader.{escapeLeadOf}
 use Rattle.json_characters.proofs.EscapeLaws.{short-is, short-none}
 use Rattle.json_characters.proofs.escapes.short.Statement.{statement}
 use Rattle.json_characters.proofs.escapes.short.Tie as tie

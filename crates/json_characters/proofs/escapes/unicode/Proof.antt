@@ -1,7 +1,7 @@
 -- `unicode` meets its contract.
 use mathlib.Core.Path.{sym, _∙_}
-use Rattle.json_grammar.specs.Bytes.{isHigh, isLow}
-use Rattle.json_grammar.specs.Reader.{readHex}
+use Rattle.json_grammar_rules.specs.Bytes.{isHigh, isLow}
+use Rattle.json_grammar_rules.specs.Reader.{readHex}
 use Rattle.json_characters.proofs.ScanLaws.{scanned, scan-after}
 use Rattle.json_characters.proofs.EscapeLaws.{unicode-no-hex, unicode-high, unicode-low, unicode-is}
 use borrow.Author.Needs.{needs}

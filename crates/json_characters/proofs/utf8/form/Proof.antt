@@ -3,8 +3,8 @@ use mathlib.Core.Path.{sym, ap, _∙_}
 use native.Mathlib.Omega.{arith}
 use lib.Dec.{lit≤, lit<}
 use borrow.Author.Needs.{needs}
-use Rattle.json_grammar.specs.Bytes.{within}
-use Rattle.json_grammar.specs.Reader.{isUnescaped1, charLead}
+use Rattle.json_grammar_rules.specs.Bytes.{within}
+use Rattle.json_grammar_rules.specs.Reader.{isUnescaped1, charLead}
 use Rattle.json_characters.proofs.FormLaws.{lead-low, lead-bits, three-row, four-row, form-two, form-three, form-four, form-none}
 use Rattle.json_characters.proofs.utf8.form.Statement.{statement}
 use Rattle.json_characters.proofs.utf8.form.Tie as tie

@@ -6,7 +6,7 @@ use Prim.Native.Nat.{_≤_, _<_}
 use lib.ListN.{length}
 use Rattle.json_characters.specs.declared.Scan.{Scan}
 use Rattle.json_characters.specs.Steps.{ScanAt, readTails}
-use Rattle.json_grammar.specs.ByteLaws.{within-true}
+use Rattle.json_grammar_rules.specs.ByteLaws.{within-true}
 use Rattle.json_characters.proofs.DigitLaws.{room, room-small, room-step, digits-more, digits-not, digits-out, digits-done}
 use Rattle.json_characters.proofs.FormLaws.{room-least, tail-bits}
 use Rattle.json_characters.proofs.utf8.tails.Statement.{statement}

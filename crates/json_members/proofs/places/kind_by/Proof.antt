@@ -1,13 +1,12 @@
 -- `kind_by` meets its contract.
-use Rattle.json_grammar.specs.Reader.{valueLead}
+use Rattle.json_grammar_rules.specs.Reader.{valueLead}
 use Rattle.json_reader.specs.Contracts.{kindBy}
 use Rattle.json_reader.specs.ValueLaws.{lead-number}
-use Rattle.json_members.specs.Steps.{kindFor}
 use Rattle.json_members.proofs.places.kind_by.Statement.{statement}
 use Rattle.json_members.proofs.places.kind_by.Tie as tie
 
 pub kind-by-spec : {M : Type 1} → statement M
-unfolding valueLead kindBy kindFor
+unfolding valueLead kindBy
 kind-by-spec =
     tie.close
     (tie.spec

@@ -1,6 +1,6 @@
 -- `exp_end` meets its contract.
 use mathlib.Core.Path.{sym, _∙_}
-use Rattle.json_grammar.specs.Bytes.{isE}
+use Rattle.json_grammar_rules.specs.Bytes.{isE}
 use Rattle.json_tokens.proofs.NumberLaws as law
 use borrow.Author.Needs.{needs}
 use Rattle.json_tokens.proofs.numbers.exp_end.Statement.{statement}

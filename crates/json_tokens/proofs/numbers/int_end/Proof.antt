@@ -1,6 +1,6 @@
 -- `int_end` meets its contract.
 use mathlib.Core.Path.{sym, _∙_}
-use Rattle.json_grammar.specs.Bytes.{isDigit, isDigit19}
+use Rattle.json_grammar_rules.specs.Bytes.{isDigit, isDigit19}
 use Rattle.json_tokens.specs.TokenLaws.{moves}
 use Rattle.json_tokens.proofs.NumberLaws as law
 use borrow.Author.Needs.{needs}

@@ -3,7 +3,7 @@ use mathlib.Core.Path.{_≡_, refl, sym, _∙_}
 use Prim.Native.Nat.{_-_}
 use native.Mathlib.Omega.{arith}
 use lib.ListN.{length}
-use Rattle.json_grammar.specs.Bytes.{isDigit}
+use Rattle.json_grammar_rules.specs.Bytes.{isDigit}
 use Rattle.json_tokens.specs.Tokens.{skipTo}
 use Rattle.json_tokens.proofs.SkipLaws.{skip-more, skip-stop, skip-end}
 use Rattle.json_tokens.proofs.numbers.skip_digits.Statement.{statement}

@@ -1,6 +1,6 @@
 -- `skip_sign` meets its contract.
 use mathlib.Core.Path.{sym, _∙_}
-use Rattle.json_grammar.specs.Bytes.{isSign}
+use Rattle.json_grammar_rules.specs.Bytes.{isSign}
 use Rattle.json_tokens.proofs.NumberLaws as law
 use borrow.Author.Needs.{needs}
 use Rattle.json_tokens.proofs.numbers.skip_sign.Statement.{statement}

@@ -1,6 +1,6 @@
 -- `is_ws` meets its contract.
 use borrow.Author.Tests.{ne-eqb}
-use Rattle.json_grammar.specs.Bytes.{isWs}
+use Rattle.json_grammar_rules.specs.Bytes.{isWs}
 use Rattle.json_tokens.proofs.spaces.is_ws.Statement.{statement}
 use Rattle.json_tokens.proofs.spaces.is_ws.Tie as tie
 

@@ -1,4 +1,4 @@
--- `open_segments` meets its contract: the segments one by one, then rules 4 to 6.
+-- `open_segments` meets its contract: the segments one by one.
 use borrow.Author.Needs.{needs}
 use Rattle.jws_segments.specs.OpenLaws as law
 use Rattle.jws_segments.proofs.opening.open_segments.Statement.{statement}
@@ -6,15 +6,14 @@ use Rattle.jws_segments.proofs.opening.open_segments.Tie as tie
 
 returns : tie.Need-returns
 returns c =
-    let y = c .before .before .before .before .before in
+    let y = c .before .before .before .before in
     let x = y .before .before .before .before .before in
-    law.opening-is _ _ _ _ _ (x .decode-segment .ensures) (y .decode-segment2 .ensures) (c .before .signature-in .ensures)
-    (x .decode-segment .kept .1 .1 .0) (y .decode-segment2 .kept .1 .1 .0) (c .opening-answer .ensures)
+    law.opening-is _ _ _ _ _ (x .decode-segment .ensures) (y .decode-segment2 .ensures) (c .signature-in .ensures)
 
 pub open-segments-spec : {M : Type 1} → statement M
 open-segments-spec =
     tie.close
     (tie.spec
-    (λ c κs. search needs) (λ c κs. search needs) (λ c κs. search needs) (λ c κs. search needs) (λ c κs. search needs)
-    (λ c. search needs) (λ c. search needs)
+    (λ c κs. search needs) (λ c κs. search needs) (λ c κs. search needs) (λ c. search needs) (λ c. search needs)
+    (λ c. search needs)
     returns)

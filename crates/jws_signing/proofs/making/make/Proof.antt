@@ -4,6 +4,7 @@ use mathlib.Core.List.{List}
 use Prim.Native.Nat.{ℕ}
 use lib.ListN.{length}
 use borrow.Author.Needs.{needs}
+use Rattle.jws_rules.specs.Calls.{signCall}
 use Rattle.jws_signing.specs.Written.{finished}
 use Rattle.jws_signing.proofs.SignLaws.{Passed, head-refuses, head-passes}
 use Rattle.jws_signing.proofs.WrittenLaws.{refuse, same-outcome}
@@ -12,13 +13,13 @@ use Rattle.jws_signing.proofs.making.make.Tie as tie
 
 -- what is known once the header and the table chose a key
 chosen : (d : tie.After-decision2) → let a = d .before .before .before .before .before .before .before .args in
-    Passed (a .header .now) (a .payload .now) (a .table .now) (length (a .token .now)) (d .decision2 .given .0 .0)
-chosen d = head-passes _ _ _ _ (sym (d .decision2 .given .1) ∙ d .before .before .decide .ensures)
+    Passed (signCall (a .header .now) (a .payload .now) (a .table .now) (a .token .now)) (d .decision2 .given .0 .0)
+chosen d = head-passes _ (sym (d .decision2 .given .1) ∙ d .before .before .decide .ensures)
 
 returns : tie.Need-returns
 returns c =
     let d = c .before .before in
-    refuse _ (head-refuses _ _ _ _ (sym (d .decision .given .1) ∙ d .before .before .decide .ensures)) (c .refusal .ensures) refl
+    refuse _ (head-refuses _ (sym (d .decision .given .1) ∙ d .before .before .decide .ensures)) (c .refusal .ensures) refl
 
 returns-2 : tie.Need-returns-2
 returns-2 c =

@@ -1,0 +1,4 @@
+-- Laws for the code's proofs.
+pub mod KnownRules
+pub mod FormatLaws
+pub mod KeyRules

@@ -1,0 +1,3 @@
+-- What the functions speak of, and laws for those who call `judge`.
+pub mod Judging
+pub mod JudgingLaws
