@@ -2,7 +2,7 @@
 use mathlib.Core.Path.{_≡_}
 use mathlib.Core.Bool.{Bool, true, false, cond, not, _&&_, _||_}
 use mathlib.Core.List.{List, [], _∷_}
-use Prim.Native.Nat.{ℕ}
+use Prim.Native.Nat.{ℕ, zero, suc}
 use lib.Dec.{eqb}
 
 -- `n on P`: the answer n is given on the condition P
@@ -34,6 +34,11 @@ abbrev pub first : List Test → ℕ
 first [] = 0
 first ((n when true) ∷ ts) = n
 first ((n when false) ∷ ts) = first ts
+
+-- what is given by that number: 0 is success, and any other a refusal
+abbrev pub settle : {A : Type 0} → ℕ → A → (ℕ → A) → A
+settle zero good bad = good
+settle (suc n) good bad = bad (suc n)
 
 abbrev pub numbers : List Rule → List ℕ
 numbers [] = []

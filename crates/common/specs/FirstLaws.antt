@@ -3,12 +3,12 @@ use mathlib.Core.Path.{_≡_, refl, sym, ap, _∙_}
 use mathlib.Core.Logic.{_↔_, _⊎_, inl, inr, ⊎-elim}
 use mathlib.Core.Bool.{Bool, true, false, cond, not, _&&_, _||_, false≢true}
 use mathlib.Core.List.{List, [], _∷_, _++_, map}
-use Prim.Native.Nat.{ℕ, _≤_, _<_}
+use Prim.Native.Nat.{ℕ, zero, suc, _≤_, _<_}
 use native.Mathlib.Omega.{arith}
 use lib.Dec.{ltb, leb, eqb}
 use borrow.Author.Tests.{ltb-true, ltb-false, leb-true, leb-false, eqb-true, eqb-false, eq-eqb, not-true}
 use Rattle.common.specs.Truth.{both}
-use Rattle.common.specs.First.{Rule, _on_, Test, _when_, condition, earlier, NoneOf, first, numbers, among, distinct, Decides, holds, fails, Agree, done, _by_, numbered, Pass, test, follows, Alike, none, more}
+use Rattle.common.specs.First.{Rule, _on_, Test, _when_, condition, earlier, NoneOf, first, settle, numbers, among, distinct, Decides, holds, fails, Agree, done, _by_, numbered, Pass, test, follows, Alike, none, more}
 
 or-left : (a b : Bool) → a ≡ true → a || b ≡ true
 or-left true b e = refl
@@ -237,3 +237,18 @@ alike-on ((m on P) ∷ rs) u Q h =
         → (condition rs n → Q n) × (Q n → condition rs n)
     go n k true e f w = absurd (false≢true (sym w ∙ ap (λ (x : ℕ). among x (numbers rs)) (eqb-true m n e) ∙ k))
     go n k false e f w = f
+
+-- WHAT IS GIVEN, by the number
+
+pub settle-good : {A : Type 0} (n : ℕ) (v : A) (f : ℕ → A) → n ≡ 0 → settle n v f ≡ v
+settle-good zero v f e = refl
+settle-good (suc n) v f e = absurd (omega arith)
+
+pub settle-bad : {A : Type 0} (n : ℕ) (v : A) (f : ℕ → A) → (n ≡ 0 → ⊥) → settle n v f ≡ f n
+settle-bad zero v f h = absurd (h refl)
+settle-bad (suc n) v f h = refl
+
+-- the answer in what is given is the number
+pub settle-answer : {A : Type 0} (answer : A → ℕ) (n : ℕ) (v : A) (f : ℕ → A) → answer v ≡ 0 → ((m : ℕ) → answer (f m) ≡ m) → answer (settle n v f) ≡ n
+settle-answer answer zero v f e g = e
+settle-answer answer (suc n) v f e g = g (suc n)

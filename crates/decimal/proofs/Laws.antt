@@ -17,9 +17,9 @@ use Rattle.common.specs.Ranges.{isDigit}
 use Rattle.common.specs.RangeLaws.{within-is, below as low, above as high}
 use Rattle.decimal.specs.declared.Magnitude.{Magnitude}
 use Rattle.decimal.specs.declared.Magnitude.the-variants.{Of, Beyond}
-use Rattle.decimal.specs.declared.Integer.{Integer}
-use Rattle.decimal.specs.declared.Integer.the-variants.{Is, No}
-use Rattle.decimal.specs.Integer.{allDigits, after, digits, number, inRange, integerOf}
+use Rattle.decimal_rules.specs.declared.Integer.{Integer}
+use Rattle.decimal_rules.specs.declared.Integer.the-variants.{Is, No}
+use Rattle.decimal_rules.specs.Integer.{allDigits, after, digits, number, inRange, integerOf}
 use Rattle.decimal.specs.Magnitude.{magnitudeOf}
 
 no-length : (s : List ℕ) → length s ≡ 0 → s ≡ []

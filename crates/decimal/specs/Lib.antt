@@ -1,4 +1,2 @@
--- An integer's decimal text: the definition, the value of digits within a bound, and examples.
-pub mod Integer
+-- The value of digits within a bound.
 pub mod Magnitude
-pub mod Examples

@@ -5,7 +5,7 @@ use Prim.Native.Nat.{ℕ}
 use lib.Dec.{leb}
 use Rattle.decimal.specs.declared.Magnitude.{Magnitude}
 use Rattle.decimal.specs.declared.Magnitude.the-variants.{Of, Beyond}
-use Rattle.decimal.specs.Integer.{digits, number}
+use Rattle.decimal_rules.specs.Integer.{digits, number}
 
 unfoldable pub magnitudeOf : ℕ → List ℕ → Magnitude
 magnitudeOf most s = cond (digits s && leb (number s) most) (Of (number s)) Beyond

@@ -2,13 +2,9 @@
 ghost use mathlib.Core.Path.{_≡_};
 ghost use Prim.Native.Nat.{_-_, _≤_};
 ghost use lib.IntN.{negℤ, pos};
-ghost use Rattle.decimal.specs.Integer.{integerOf};
+ghost use Rattle.decimal_rules.specs.Integer.{integerOf};
 ghost use Rattle.decimal.specs.Magnitude.{magnitudeOf};
-
-pub enum Integer {
-    Is(i64),
-    No,
-}
+pub use decimal_rules::Integer;
 
 // The value of digits that is not too great.
 enum Magnitude {

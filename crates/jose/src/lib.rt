@@ -63,7 +63,7 @@ pub fn decide_with(header: &[u8], table: &[u8]) -> Decision
     let known = known_from(header, from, INSIDE);
     let facts = facts_of(header, known, INSIDE, table);
     let verdict = judge(facts, no_facts(), table);
-    decided(verdict, known)
+    with_texts(verdict, known)
 }
 
 // What a header of no members says.
@@ -81,7 +81,7 @@ fn no_facts() -> Facts
 }
 
 // The verdict, with the raw texts of `typ` and `cty`.
-fn decided(verdict: Verdict, known: Known) -> Decision
+fn with_texts(verdict: Verdict, known: Known) -> Decision
     ensures { λ r. ⌜ r ≡ decisionOf verdict known ⌝ }
 {
     match verdict {

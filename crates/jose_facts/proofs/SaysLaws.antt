@@ -18,9 +18,9 @@ use Rattle.json_members.specs.declared.slots.Slot.the-variants.{Absent, Is}
 use Rattle.json_members.specs.Members.{part}
 use Rattle.json_members.specs.Slots.{plainOf, Shows, isString, isNumber}
 use Rattle.json_members.specs.SlotLaws.{shows-as, shown, string-at, number-at}
-use Rattle.decimal.specs.declared.Integer.{Integer}
-use Rattle.decimal.specs.declared.Integer.the-variants.{Is as Number, No}
-use Rattle.decimal.specs.Integer.{integerOf}
+use Rattle.decimal_rules.specs.declared.Integer.{Integer}
+use Rattle.decimal_rules.specs.declared.Integer.the-variants.{Is as Number, No}
+use Rattle.decimal_rules.specs.Integer.{integerOf}
 use Rattle.keytable_rules.specs.declared.Found.{Found}
 use Rattle.keytable_rules.specs.declared.Found.the-variants.{At, Nothing}
 use Rattle.keytable_rules.specs.Key.{Key, find}

@@ -38,7 +38,7 @@ pub record TextFactIs (s : Slot) (r : Text) : Type 0 where
 pub record CritFactIs (h : List ℕ) (d : ℕ) (s : Slot) (r : Crit) : Type 0 where
   pub is : (o : Option LItem) → Shows h d s o → r ≡ critFact (plainOf o)
 
--- what the names in the elements at p say after others: l, whether `fmt` was listed; b, whether one was bad
+-- what the names in these elements say after others: l, whether `fmt` was listed; b, whether one was bad
 abbrev pub namesAfter : Bool → Bool → LItems → Crit
 namesAfter l b vs = pick Crit.Wrong Crit.Wrong (namesFrom l b) (stringsIn (plainItems vs))
 

@@ -8,7 +8,7 @@ use Rattle.common.specs.First.{first}
 use Rattle.common.specs.Ranges.{within, isDigit}
 use Rattle.json_grammar_rules.specs.Value.{Value, Values, Members, stringV, numberV, trueV, arrayV, objectV, vnil, vcons, mnil, mcons}
 use Rattle.json_characters.specs.Utf8.{utf8, octets}
-use Rattle.decimal.specs.Integer.{integerOf, allDigits, after}
+use Rattle.decimal_rules.specs.Integer.{integerOf, allDigits, after}
 use Rattle.common.specs.Same.{same}
 use Rattle.keytable_rules.specs.Key.{Key, find, only, allowsHS256, allowsFormat}
 use Rattle.common.specs.Ascii.{ascii}

@@ -3,10 +3,10 @@
 use mathlib.Core.Bool.{Bool, true, false, cond, not, _||_}
 use mathlib.Core.List.{List, [], _∷_, _++_}
 use mathlib.Core.Option.{Option, none, some}
-use Prim.Native.Nat.{ℕ, zero, suc}
+use Prim.Native.Nat.{ℕ}
 use lib.IntN.{ℤ, pos, natAbs}
 use lib.Signed.{ltZ}
-use Rattle.common.specs.First.{Test, _when_, first}
+use Rattle.common.specs.First.{Test, _when_, first, settle}
 use Rattle.common.specs.Options.{absent, given, orElse}
 use Rattle.common.specs.Same.{same}
 use Rattle.json_grammar_rules.specs.Value.{Value, Members, mnil, mcons}
@@ -230,7 +230,7 @@ criticalBroken f u = listsBadly (f .crit) (fmtThere (f .fmt)) || critThere (u .c
 abbrev pub knownTests : Facts → Facts → List Test
 knownTests f u = 9 when missingOrWrong f ∷ 10 when criticalBroken f u ∷ 11 when algOther (f .alg) ∷ []
 
--- the chosen key passes the test
+-- there is a chosen key, and p of it
 abbrev pub ofChosen : Facts → List Key → (Key → Bool) → Bool
 ofChosen f ks p = given (λ i. p (key ks i)) (chosenKey (f .kid) ks)
 
@@ -254,10 +254,9 @@ numberBy f = natAbs (orElse (formatBy (f .fmt)) (pos 0))
 unfoldable pub choiceBy : Facts → List Key → Part → Part → Choice
 choiceBy f ks t c = record { «key_index» = indexBy f ks; «kid_present» = kidThere (f .kid); format = numberBy f; typ = t; cty = c }
 
--- what the facts decide: 0 is success, and any other number a refusal
+-- what the facts decide, by the number of the first rule that refuses, or 0
 abbrev pub verdictBy : ℕ → Facts → List Key → Verdict
-verdictBy zero f ks = Verdict.Takes (indexBy f ks) (kidThere (f .kid)) (numberBy f)
-verdictBy (suc n) f ks = Verdict.Refused (suc n)
+verdictBy n f ks = settle n (Verdict.Takes (indexBy f ks) (kidThere (f .kid)) (numberBy f)) (λ m. Verdict.Refused m)
 
 unfoldable pub verdict : Facts → Facts → List Key → Verdict
 verdict f u ks = verdictBy (first (choosingTests f u ks)) f ks

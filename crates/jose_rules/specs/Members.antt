@@ -6,9 +6,9 @@ use mathlib.Core.Option.{Option, none, some}
 use Prim.Native.Nat.{ℕ}
 use lib.IntN.{ℤ}
 use Rattle.json_grammar_rules.specs.Value.{Value, Values, Members, stringV, numberV, trueV, falseV, nullV, arrayV, objectV, vnil, vcons, mnil, mcons}
-use Rattle.decimal.specs.Integer.{integerOf}
-use Rattle.decimal.specs.declared.Integer.{Integer}
-use Rattle.decimal.specs.declared.Integer.the-variants.{Is, No}
+use Rattle.decimal_rules.specs.Integer.{integerOf}
+use Rattle.decimal_rules.specs.declared.Integer.{Integer}
+use Rattle.decimal_rules.specs.declared.Integer.the-variants.{Is, No}
 use Rattle.common.specs.Options.{bind}
 
 -- a member with the name n has the value v

@@ -41,7 +41,8 @@ pub fn taken(text: &[u8], p: usize, m: Entry, word: &[u8], slot: Slot) -> Slot
     slot
 }
 
-// How many bytes a place has. Rules out one more for the byte past its end, and a number below 0 for a place that ends before it starts.
+// How many bytes a place has. Rules out one more for the byte past its end, and a difference that wraps where the end lies before the
+// start.
 pub fn size(place: Place) -> usize
     ensures { λ r. ⌜ r ≡ sizeOf place ⌝ }
 {
@@ -53,19 +54,21 @@ pub fn size(place: Place) -> usize
     0
 }
 
-// Whether a value of this kind is a string, a number, an array. Rules out one kind told for another, and a kind that is two of them.
+// Whether a value of this kind is a string. Rules out one kind told for another, and a kind that is two of them.
 pub fn is_string(kind: Kind) -> bool
     ensures { λ r. ⌜ r ≡ isString kind ⌝ }
 {
     by_kind(kind, true, false, false)
 }
 
+// Likewise a number.
 pub fn is_number(kind: Kind) -> bool
     ensures { λ r. ⌜ r ≡ isNumber kind ⌝ }
 {
     by_kind(kind, false, true, false)
 }
 
+// Likewise an array.
 pub fn is_array(kind: Kind) -> bool
     ensures { λ r. ⌜ r ≡ isArray kind ⌝ }
 {

@@ -1,6 +1,6 @@
 -- What a header answers, and what the member reader answers for its member k.
-use mathlib.Core.Bool.{Bool, not}
-use mathlib.Core.List.{List, [], _∷_}
+use mathlib.Core.Bool.{Bool, true, false, not}
+use mathlib.Core.List.{List, [], _∷_, _++_}
 use mathlib.Core.Option.{Option, none, some}
 use Prim.Native.Nat.{ℕ, zero, suc}
 use lib.Dec.{ltb}
@@ -32,8 +32,11 @@ abbrev pub grammarTests : ℕ → List ℕ → List Test
 grammarTests d h = 7 when not (isGot (read d h)) ∷ 8 when twiceIn (membersIn (read d h)) ∷ []
 
 -- 5: longer than 1,024 bytes; then those of the text, within the greatest depth
+abbrev pub lengthTest : ℕ → Test
+lengthTest n = 5 when ltb longest n
+
 unfoldable pub headerTests : List ℕ → List Test
-headerTests h = 5 when ltb longest (length h) ∷ grammarTests deepest h
+headerTests h = lengthTest (length h) ∷ grammarTests deepest h
 
 unfoldable pub checked : List ℕ → ℕ
 checked h = first (headerTests h)
@@ -57,6 +60,14 @@ shownBy Kind.Object n v = Object n v
 unfoldable pub answerFor : Option MemberPlaces → Member
 answerFor none = Refused 16
 answerFor (some m) = shownBy (m .kind) (place (m .nameStart) (m .nameEnd)) (place (m .valueStart) (m .valueEnd))
+
+-- whether there is no such member; and the tests of both
+abbrev pub missing : Option MemberPlaces → Bool
+missing none = true
+missing (some m) = false
+
+abbrev pub memberTests : List ℕ → ℕ → List Test
+memberTests h k = headerTests h ++ (16 when missing (member h k (membersIn (read deepest h))) ∷ [])
 
 -- the header's refusal stands before the member
 unfoldable pub unlessRefused : ℕ → Member → Member

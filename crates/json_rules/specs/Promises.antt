@@ -1,17 +1,17 @@
 -- The member reader answers by the grammar: its refusals, when a header is read, and what is shown of a member.
 use mathlib.Core.Path.{_≡_, refl, sym, ap, _∙_, subst}
 use mathlib.Core.Logic.{_↔_, _⊎_, inl, inr, ⊎-elim}
-use mathlib.Core.Bool.{Bool, true, false, not, _||_}
+use mathlib.Core.Bool.{Bool, true, false, _||_, true≢false}
 use mathlib.Core.List.{List, [], _∷_, _++_}
 use mathlib.Core.Option.{Option, none, some}
 use Prim.Native.Nat.{ℕ, zero, suc, _≤_, _<_}
 use native.Mathlib.Omega.{arith}
-use lib.Dec.{ltb, eqb}
+use lib.Dec.{eqb}
 use lib.ListN.{length}
 use borrow.Author.Tests.{ltb-false, ne-eqb}
 use Rattle.common.specs.Decided.{test-false}
-use Rattle.common.specs.First.{Test, _when_, first, among, condition, earlier, NoneOf, Decides, holds, fails, Agree, done, _by_}
-use Rattle.common.specs.FirstLaws.{first-stands, none-stands, in-range, agree-append, decides-lt, decides-not, decides-iff, stable, not-on}
+use Rattle.common.specs.First.{Test, _when_, first, numbered, among, condition, earlier, NoneOf, Decides, holds, fails, Agree, done, _by_}
+use Rattle.common.specs.FirstLaws.{first-stands, none-stands, in-range, agree-append, first-within, first-after, decides-lt, decides-not, decides-iff, stable, not-on, _also_}
 use Rattle.json_grammar_rules.specs.Twice.{TwiceNamed}
 use Rattle.json_grammar_rules.specs.TwiceLaws.{decides-twice}
 use Rattle.json_grammar_rules.specs.Value.{Members, objectV, LMembers, lnil, lcons, named, plain, plainMembers}
@@ -21,22 +21,15 @@ use Rattle.json_grammar_rules.specs.Places.{MemberPlaces, placed, member}
 use Rattle.json_grammar_rules.specs.Reader.{Got, got, read}
 use Rattle.json_grammar_rules.specs.Readings.{plain-of}
 use Rattle.json_grammar_rules.specs.Complete.{complete}
-use Rattle.json_grammar_rules.specs.Unique.{isGot, one-reading, read-decides}
+use Rattle.json_grammar_rules.specs.Unique.{one-reading, read-decides}
 use Rattle.json_grammar_rules.specs.Shown.{Shows}
 use Rattle.json_grammar_rules.specs.ShownLaws.{shown}
 use Rattle.json_rules.specs.declared.Place.{Place}
 use Rattle.json_rules.specs.declared.Member.the-variants.{Refused}
 use Rattle.json_rules.specs.Rules.{longest, deepest, NameTwice, count, NoMember, grammarRules, headerRules, memberRules}
-use Rattle.json_rules.specs.Answers.{membersIn, twiceIn, grammarTests, headerTests, checked, place, shownBy, answerFor, unlessRefused, memberOf, numberOf, with-kind, valuesOf}
+use Rattle.json_rules.specs.Answers.{membersIn, twiceIn, grammarTests, headerTests, checked, missing, memberTests, place, shownBy, answerFor, unlessRefused, memberOf, numberOf, with-kind, valuesOf}
 
 -- THE TESTS decide them, each where no earlier one holds
-
-abbrev missing : Option MemberPlaces → Bool
-missing none = true
-missing (some m) = false
-
-abbrev memberTests : List ℕ → ℕ → List Test
-memberTests h k = headerTests h ++ (16 when missing (member h k (membersIn (read deepest h))) ∷ [])
 
 -- what is read of a header that is derived
 derived-read : (d : ℕ) (h : List ℕ) (t : Derivation) → bytes t ≡ h → depthOf t ≤ d → read d h ≡ got (membersOf t) []
@@ -97,18 +90,18 @@ unfolding answerFor numberOf
 answer-number none = refl
 answer-number (some m) = shown-by (m .kind) _ _ .0
 
-number-is : (a b c : Bool) (f : Option MemberPlaces)
-    → numberOf (unlessRefused (first (5 when a ∷ 7 when b ∷ 8 when c ∷ [])) (answerFor f)) ≡ first (5 when a ∷ 7 when b ∷ 8 when c ∷ 16 when missing f ∷ [])
+-- the header's refusal, or the member's
+number-is : (us : List Test) (f : Option MemberPlaces) → numbered us ≡ true → numberOf (unlessRefused (first us) (answerFor f)) ≡ first (us ++ (16 when missing f ∷ []))
 unfolding unlessRefused numberOf
-number-is true b c f = refl
-number-is false true c f = refl
-number-is false false true f = refl
-number-is false false false f = answer-number f
+number-is us f u = go (first us) refl
+  where
+    go : (n : ℕ) → first us ≡ n → numberOf (unlessRefused n (answerFor f)) ≡ first (us ++ (16 when missing f ∷ []))
+    go zero e = answer-number f ∙ sym (first-after us (16 when missing f ∷ []) u e)
+    go (suc n) e = sym (first-within us (16 when missing f ∷ []) (λ z. omega arith) ∙ e)
 
 pub member-number : (h : List ℕ) (k : ℕ) → numberOf (memberOf h k) ≡ first (memberTests h k)
 unfolding memberOf checked headerTests
-member-number h k =
-    number-is (ltb longest (length h)) (not (isGot (read deepest h))) (twiceIn (membersIn (read deepest h))) (member h k (membersIn (read deepest h)))
+member-number h k = number-is (headerTests h) (member h k (membersIn (read deepest h))) refl
 
 -- each number is given exactly when its condition holds and no earlier one does, ..
 pub member-first : (h : List ℕ) (k n : ℕ) → among n (5 ∷ 7 ∷ 8 ∷ 16 ∷ []) ≡ true
@@ -138,13 +131,6 @@ header-range h = in-range (header-agree h)
 pub header-none : (h : List ℕ) → (checked h ≡ 0) ↔ NoneOf (headerRules h)
 unfolding checked
 header-none h = none-stands (header-agree h) refl
-
-fine-number : (a b c m : Bool) → (first (5 when a ∷ 7 when b ∷ 8 when c ∷ 16 when m ∷ []) ≡ 0) ⊎ (first (5 when a ∷ 7 when b ∷ 8 when c ∷ 16 when m ∷ []) ≡ 16)
-    → first (5 when a ∷ 7 when b ∷ 8 when c ∷ []) ≡ 0
-fine-number true b c m e = absurd (⊎-elim (λ z. omega arith) (λ z. omega arith) e)
-fine-number false true c m e = absurd (⊎-elim (λ z. omega arith) (λ z. omega arith) e)
-fine-number false false true m e = absurd (⊎-elim (λ z. omega arith) (λ z. omega arith) e)
-fine-number false false false m e = refl
 
 either-number : (f : Option MemberPlaces) {x : ℕ} → x ≡ first (16 when missing f ∷ []) → (x ≡ 0) ⊎ (x ≡ 16)
 either-number none e = inr e
@@ -189,6 +175,10 @@ pub refused : (h : List ℕ) (n : ℕ) → checked h ≡ suc n → (k : ℕ) →
 unfolding memberOf unlessRefused
 refused h n e k = ap (λ (x : ℕ). unlessRefused x (answerFor (member h k (membersIn (read deepest h))))) e
 
+refused-number : (h : List ℕ) (n : ℕ) → checked h ≡ suc n → (k : ℕ) → numberOf (memberOf h k) ≡ suc n
+unfolding numberOf
+refused-number h n e k = ap numberOf (refused h n e k)
+
 pub too-long : (h : List ℕ) → longest < length h → (k : ℕ) → memberOf h k ≡ Refused 5
 too-long h l k = refused h 4 (header-first h 5 refl .1 (l, tt)) k
 
@@ -204,20 +194,18 @@ module _ (h : List ℕ) (l : length h ≤ longest) where
   short g = omega arith
 
   pub underived : (Derived deepest h → ⊥) → (k : ℕ) → memberOf h k ≡ Refused 7
-  underived n k = refused h 6 (header-first h 7 refl .1 (n, (short, tt))) k
+  underived n k = refused h 6 (header-first h 7 refl .1 (n, short also tt)) k
 
   pub named-twice : (t : Derivation) → bytes t ≡ h → depthOf t ≤ deepest → TwiceNamed (objectV (readingOf t)) → (k : ℕ) → memberOf h k ≡ Refused 8
-  named-twice t p q e k = refused h 7 (header-first h 8 refl .1 ((t, p, e), (short, ((λ n. n (t, p, q)), tt)))) k
+  named-twice t p q e k = refused h 7 (header-first h 8 refl .1 ((t, p, e), short also (λ n. n (t, p, q)) also tt)) k
 
   checked-fine : DerivedOnce h → checked h ≡ 0
   checked-fine r =
-      header-none h .1 (
-        short,
-        (
-          (λ n. n (r .0, r .1, r .2)),
-          ((λ u. r .3 (subst (λ (ms : Members). TwiceNamed (objectV ms)) (one-reading (u .0) (r .0) (u .1 ∙ sym (r .1))) (u .2))), tt),
-        ),
-      )
+      header-none h .1
+      (short
+      also (λ n. n (r .0, r .1, r .2))
+      also (λ u. r .3 (subst (λ (ms : Members). TwiceNamed (objectV ms)) (one-reading (u .0) (r .0) (u .1 ∙ sym (r .1))) (u .2)))
+      also tt)
 
   -- THE MEMBER SHOWN: kind and places are those of every derivation, and the bytes there resolve to the name and the value in its reading
   module _ (t : Derivation) (p : bytes t ≡ h) (q : depthOf t ≤ deepest) (e : TwiceNamed (objectV (readingOf t)) → ⊥) (k : ℕ) where
@@ -247,9 +235,16 @@ module _ (h : List ℕ) (l : length h ≤ longest) where
     λ r k. either-number (member h k (membersOf (r .0))) (ap numberOf (member-is (r .0) (r .1) (r .2) (r .3) k) ∙ answer-number (member h k (membersOf (r .0)))),
   )
     where
+      -- a refusal of the header is neither 0 nor 16
       fine : (numberOf (memberOf h 0) ≡ 0) ⊎ (numberOf (memberOf h 0) ≡ 16) → checked h ≡ 0
-      fine c = fine-number (ltb longest (length h)) (not (isGot (read deepest h))) (twiceIn (membersIn (read deepest h))) (missing (member h 0 (membersIn (read deepest h))))
-          (⊎-elim (λ e. inl (sym (member-number h 0) ∙ e)) (λ e. inr (sym (member-number h 0) ∙ e)) c)
+      fine c = go (checked h) refl
+        where
+          go : (n : ℕ) → checked h ≡ n → checked h ≡ 0
+          go zero e = e
+          go (suc n) e =
+              let number = refused-number h n e 0 in
+              let other : suc n ≡ 16 → ⊥ = λ z. true≢false (sym (header-range h) ∙ ap (λ (m : ℕ). among m (0 ∷ 5 ∷ 7 ∷ 8 ∷ [])) (e ∙ z)) in
+              absurd (⊎-elim (λ z. omega arith) (λ z. other (sym number ∙ z)) c)
 
 -- "To a header that isn't read it gives one refusal of 5, 7 and 8, the same for every k"
 pub unread : (h : List ℕ) → (Read h → ⊥) → (n : ℕ) × (among n (5 ∷ 7 ∷ 8 ∷ []) ≡ true) × ((k : ℕ) → memberOf h k ≡ Refused n)

@@ -38,9 +38,12 @@ grammarRules d h =
     ∷ 8 on NameTwice h
     ∷ []
 
--- .. after "the header has more than 1,024 bytes"
+-- 5, by the header's length: "the header has more than 1,024 bytes"
+abbrev pub lengthRule : ℕ → Rule
+lengthRule n = 5 on (longest < n)
+
 abbrev pub headerRules : List ℕ → List Rule
-headerRules h = 5 on (longest < length h) ∷ grammarRules deepest h
+headerRules h = lengthRule (length h) ∷ grammarRules deepest h
 
 abbrev pub memberRules : List ℕ → ℕ → List Rule
 memberRules h k = headerRules h ++ (16 on NoMember h k ∷ [])

@@ -8,13 +8,13 @@ use lib.ListN.{length, take, drop, replicate, length-take}
 use borrow.Rule.Slice.PartMut.{putMid}
 use Rattle.common.specs.Buffer.{filled}
 use Rattle.common.specs.First.{first}
+use Rattle.common.specs.FirstLaws.{settle-good, settle-bad}
 use Rattle.common.specs.Laid.{cleared-from}
 use Rattle.jws_rules.specs.declared.Verified.{Verified}
 use Rattle.jws_rules.specs.Calls.{VerifyCall}
 use Rattle.jws_rules.specs.Token.{headerOf, payloadOf}
 use Rattle.jws_rules.specs.Outcomes.{given, refused}
 use Rattle.jws_rules.specs.Tests.{verifyTests, verified}
-use Rattle.jws_rules.specs.RuleLaws.{settle-good, settle-bad}
 use Rattle.jws.specs.Judging.{Judged, refusing, accepting}
 
 -- the record's lengths are within the buffers

@@ -29,8 +29,7 @@ use Rattle.jws_rules.specs.declared.Verified.{Verified}
 use Rattle.jws_rules.specs.Calls.{VerifyCall}
 use Rattle.jws_rules.specs.Segments.{periods, front, back}
 use Rattle.jws_rules.specs.Token.{tokenMost, headerOf, payloadOf, signatureOf, sentInput, secretOf}
-use Rattle.jws_rules.specs.Outcomes.{recordOf}
-use Rattle.jws_rules.specs.Tests.{segmentTests, signatureTests, fromHeader, fromSegments, verifyTests, tokenChoice}
+use Rattle.jws_rules.specs.Tests.{segmentTests, signatureTests, fromHeader, fromSegments, verifyTests, tokenChoice, tokenRecord}
 use Rattle.jws_segments.specs.declared.opening.Opened.{Opened}
 use Rattle.jws_segments.specs.SplitLaws.{Places}
 use Rattle.jws_segments.specs.Opening.{isMac}
@@ -118,7 +117,7 @@ decision-is o m T e f h = h ∙ ap (λ (d : Decision). decidedAs d o m T) (sym e
 
 judged-mac : {q : VerifyCall} {hb pb : List ℕ} {r : Verified} (s : Bool)
     → take (length (headerOf (q .token))) hb ≡ headerOf (q .token) → take (length (payloadOf (q .token))) pb ≡ payloadOf (q .token)
-    → r ≡ cond s (record { answer = 0; details = recordOf (headerOf (q .token)) (payloadOf (q .token)) (tokenChoice q) }) (refusalOf 15)
+    → r ≡ cond s (record { answer = 0; details = tokenRecord q }) (refusalOf 15)
     → Judged q hb pb (first (15 when not s ∷ [])) r
 judged-mac true h p e = rw e (accepting h p)
 judged-mac false h p e = judged-refusal refl (λ z. omega arith) e

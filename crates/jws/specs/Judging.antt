@@ -12,8 +12,8 @@ use Rattle.jose_rules.specs.declared.Decision.the-variants.{Refused, Chosen}
 use Rattle.jws_rules.specs.declared.Verified.{Verified}
 use Rattle.jws_rules.specs.Calls.{VerifyCall}
 use Rattle.jws_rules.specs.Token.{headerOf, payloadOf, secretOf}
-use Rattle.jws_rules.specs.Outcomes.{recordOf, zeroRecord}
-use Rattle.jws_rules.specs.Tests.{openedTests, tokenChoice}
+use Rattle.jws_rules.specs.Outcomes.{zeroRecord}
+use Rattle.jws_rules.specs.Tests.{openedTests, tokenRecord}
 use Rattle.jws_segments.specs.declared.opening.Opened.{Opened}
 use Rattle.jws_segments.specs.Opening.{isMac}
 
@@ -41,7 +41,7 @@ decidedAs (Chosen c) o m T = concluded o c m T
 pub data Judged (q : VerifyCall) (hb pb : List ℕ) : ℕ → Verified → Type 0 where
   refusing : {n : ℕ} → (n ≡ 0 → ⊥) → Judged q hb pb n (refusalOf n)
   accepting : take (length (headerOf (q .token))) hb ≡ headerOf (q .token) → take (length (payloadOf (q .token))) pb ≡ payloadOf (q .token)
-      → Judged q hb pb 0 (record { answer = 0; details = recordOf (headerOf (q .token)) (payloadOf (q .token)) (tokenChoice q) })
+      → Judged q hb pb 0 (record { answer = 0; details = tokenRecord q })
 
 -- .. by the first of these tests that is true
 abbrev pub JudgedBy : (VerifyCall → List Test) → VerifyCall → List ℕ → List ℕ → Verified → Type 0

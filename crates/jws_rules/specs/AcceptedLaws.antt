@@ -23,13 +23,13 @@ use Rattle.jose_rules.specs.HeaderTests.{headerChoice}
 use Rattle.jose_rules.specs.HeaderLaws.{header-chooses, header-chooses-one, header-rules, header-bytes}
 use Rattle.jose_rules.specs.Promises.{distinct}
 use Rattle.jws_rules.specs.declared.Record.{Record}
-use Rattle.jws_rules.specs.Calls.{VerifyCall, SignCall}
+use Rattle.jws_rules.specs.Calls.{VerifyCall, verifyOf, SignCall, signOf}
 use Rattle.jws_rules.specs.Segments.{periods, front, back}
 use Rattle.jws_rules.specs.Token.{tokenMost, finishedLength, headerOf, payloadOf, signatureOf, secretOf}
 use Rattle.jws_rules.specs.TokenLaws.{mac-bytes, length-token, Parts, parts, whole}
 use Rattle.jws_rules.specs.Outcomes.{recordOf, accepted}
 use Rattle.jws_rules.specs.Rules.{tokenRules, segmentRules, signatureRules, verifying, lengthRules, signing, Accepted}
-use Rattle.jws_rules.specs.Tests.{tokenChoice, verified, verifyAnswer, signChoice, made, signAnswer}
+use Rattle.jws_rules.specs.Tests.{tokenChoice, tokenRecord, verified, verifyAnswer, signChoice, made, signAnswer}
 use Rattle.jws_rules.specs.RuleLaws.{before-5, before-6, before-7, verify-good, verify-clear, sign-clear}
 
 -- VERIFYING
@@ -81,7 +81,7 @@ header-clear q n =
 
 -- and a token that is verified is accepted
 pub accepted-only : (q : VerifyCall) → verifyAnswer q ≡ 0
-    → Accepted q (headerOf (q .token)) (payloadOf (q .token)) (recordOf (headerOf (q .token)) (payloadOf (q .token)) (tokenChoice q))
+    → Accepted q (headerOf (q .token)) (payloadOf (q .token)) (tokenRecord q)
 accepted-only q e =
     let t = q .token in
     let n = verify-clear q e in
@@ -111,10 +111,6 @@ accepted-only q e =
 
 -- SIGNING, THEN VERIFYING
 
--- the token that was made, verified by the same table with buffers of hr and pr bytes
-abbrev pub verifiedBack : SignCall → ℕ → ℕ → VerifyCall
-verifiedBack q hr pr = record { token = made q; table = q .table; headerRoom = hr; payloadRoom = pr }
-
 module _ (q : SignCall) where
   -- a header that is signed is in order
   pub sign-header : signAnswer q ≡ 0 → (length (q .header) ≤ longest) × HeaderChooses (q .header) (termsOf (q .table)) (signChoice q)
@@ -130,7 +126,7 @@ module _ (q : SignCall) where
 
   -- what is signed is accepted, whichever buffers it fits
   pub signed-accepted : signAnswer q ≡ 0 → Bytes (q .payload) → (hr pr : ℕ) → length (q .header) ≤ hr → length (q .payload) ≤ pr
-      → Accepted (verifiedBack q hr pr) (q .header) (q .payload) (recordOf (q .header) (q .payload) (signChoice q))
+      → Accepted (verifyOf (made q) (q .table) hr pr) (q .header) (q .payload) (recordOf (q .header) (q .payload) (signChoice q))
   signed-accepted e pb hr pr k l =
       let no = not-on (signing q) (sign-clear q e) in
       let long : tokenMost < finishedLength (q .header) (q .payload) → ⊥ = no 1 in
@@ -150,14 +146,10 @@ module _ (q : SignCall) where
 
 -- VERIFYING, THEN SIGNING
 
--- a header and a payload, signed by the same table with a buffer of so many bytes
-abbrev pub again : VerifyCall → List ℕ → List ℕ → ℕ → SignCall
-again q h p room = record { header = h; payload = p; table = q .table; room = room }
-
 -- what is accepted is signed again
-pub accepted-signed : (q : VerifyCall) (h p : List ℕ) (r : Record) (room : ℕ) → Accepted q h p r → length (q .token) ≤ room → NoneOf (signing (again q h p room))
+pub accepted-signed : (q : VerifyCall) (h p : List ℕ) (r : Record) (room : ℕ) → Accepted q h p r → length (q .token) ≤ room → NoneOf (signing (signOf h p (q .table) room))
 accepted-signed q h p r room a k =
     let l = ap length (a .token) ∙ length-token (secretOf (q .table) (r .choice)) h p in
-    none-append (deciding h (q .table)) (lengthRules (again q h p room))
+    none-append (deciding h (q .table)) (lengthRules (signOf h p (q .table) room))
     (none-append (openingRules h (q .table)) (joseRules h (termsOf (q .table))) ((λ x. x (a .table)) also (λ x. omega (arith, a .header-short)) also tt) (header-rules (a .header)))
     ((λ x. omega (arith, a .short)) also (λ x. omega arith) also tt)

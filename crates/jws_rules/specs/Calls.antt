@@ -10,9 +10,12 @@ pub record VerifyCall : Type 0 where
   pub headerRoom : ℕ
   pub payloadRoom : ℕ
 
--- by what the buffers hold before the call
+-- of a token and a table, with buffers of hr and pr bytes; and with these buffers, by what they hold before the call
+abbrev pub verifyOf : List ℕ → List ℕ → ℕ → ℕ → VerifyCall
+verifyOf t T hr pr = record { token = t; table = T; headerRoom = hr; payloadRoom = pr }
+
 abbrev pub verifyCall : List ℕ → List ℕ → List ℕ → List ℕ → VerifyCall
-verifyCall t T header payload = record { token = t; table = T; headerRoom = length header; payloadRoom = length payload }
+verifyCall t T header payload = verifyOf t T (length header) (length payload)
 
 -- SIGNING: a header, a payload and a table; and how many bytes the buffer has that is lent for the token
 pub record SignCall : Type 0 where
@@ -21,5 +24,9 @@ pub record SignCall : Type 0 where
   pub table : List ℕ
   pub room : ℕ
 
+-- of a header, a payload and a table, with a buffer of so many bytes; and with this buffer
+abbrev pub signOf : List ℕ → List ℕ → List ℕ → ℕ → SignCall
+signOf h p T room = record { header = h; payload = p; table = T; room = room }
+
 abbrev pub signCall : List ℕ → List ℕ → List ℕ → List ℕ → SignCall
-signCall h p T token = record { header = h; payload = p; table = T; room = length token }
+signCall h p T token = signOf h p T (length token)

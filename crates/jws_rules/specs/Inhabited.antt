@@ -30,7 +30,7 @@ use Rattle.jose_rules.specs.Facts.{lookup, algFact, kidFact, textFact, critFact
 use Rattle.jose_rules.specs.HeaderTests.{joseTests, rawText, headerChoice}
 use Rattle.jose_rules.specs.HeaderLaws.{jose-agree, header-chooses, header-bytes, header-rules}
 use Rattle.jose_rules.specs.Promises.{distinct}
-use Rattle.jws_rules.specs.Calls.{VerifyCall, SignCall}
+use Rattle.jws_rules.specs.Calls.{VerifyCall, verifyOf, SignCall, signOf}
 use Rattle.jws_rules.specs.Segments.{period, periods, front, back, _dot_}
 use Rattle.jws_rules.specs.Token.{tokenOf, finishedLength, headerOf, secretOf}
 use Rattle.jws_rules.specs.TokenLaws.{length-token, Parts, parts}
@@ -63,10 +63,10 @@ its-choice = record { «key_index» = 0; «kid_present» = false; format = 1; ty
 
 -- a call that verifies a token with buffers of hr and pr bytes, and one that signs the header and a payload with a buffer of so many
 abbrev pub taking : List ℕ → ℕ → ℕ → VerifyCall
-taking t hr pr = record { token = t; table = table; headerRoom = hr; payloadRoom = pr }
+taking t hr pr = verifyOf t table hr pr
 
 abbrev pub making : ℕ → List ℕ → ℕ → SignCall
-making n p room = record { header = header n; payload = p; table = table; room = room }
+making n p room = signOf (header n) p table room
 
 -- THE TABLE AND THE HEADER ARE IN ORDER
 

@@ -22,13 +22,13 @@ use Rattle.jose_rules.specs.Header.{HeaderChooses}
 use Rattle.jose_rules.specs.HeaderLaws.{header-chooses-one}
 use Rattle.jose_rules.specs.Promises.{distinct}
 use Rattle.jws_rules.specs.declared.Record.{Record}
-use Rattle.jws_rules.specs.Calls.{VerifyCall, SignCall}
-use Rattle.jws_rules.specs.Token.{finishedLength, headerOf, payloadOf}
+use Rattle.jws_rules.specs.Calls.{VerifyCall, verifyOf, SignCall, signOf}
+use Rattle.jws_rules.specs.Token.{tokenOf, finishedLength, headerOf, payloadOf, secretOf}
 use Rattle.jws_rules.specs.Outcomes.{VerifyOutcome, SignOutcome, recordOf, zeroRecord, accepted, payload, signedAs, headerIn, payloadIn, tokenIn}
 use Rattle.jws_rules.specs.Rules.{verifying, signing, Accepted}
-use Rattle.jws_rules.specs.Tests.{tokenChoice, verified, verifyAnswer, signChoice, madeBy, made, signed, signAnswer}
+use Rattle.jws_rules.specs.Tests.{tokenChoice, tokenRecord, verified, verifyAnswer, signChoice, madeBy, made, signed, signAnswer}
 use Rattle.jws_rules.specs.RuleLaws.{verify-agree, verify-number, verify-is, verify-bad, sign-agree, sign-number, sign-good, sign-is, sign-bad}
-use Rattle.jws_rules.specs.AcceptedLaws.{accepted-if, accepted-only, verifiedBack, sign-header, signed-accepted, again, accepted-signed}
+use Rattle.jws_rules.specs.AcceptedLaws.{accepted-if, accepted-only, sign-header, signed-accepted, accepted-signed}
 
 -- The payload call hands back a part of the buffer, as long as the record says; "for a record that asks for more than the buffer has, the part is empty".
 pub payload-part : (r : Record) (b : List ℕ) → r .«payload_length» ≤ length b → payload r b ≡ take (r .«payload_length») b
@@ -96,7 +96,7 @@ sign-none q = rw sign-number (none-stands (sign-agree q) refl)
 -- ACCEPTED EXACTLY WHEN a header, a payload and a record make the token, by a statement with no decoder and no parser; ..
 pub accepted-exactly : (q : VerifyCall) → (verifyAnswer q ≡ 0) ↔ ((h : List ℕ) × (p : List ℕ) × (r : Record) × Accepted q h p r)
 accepted-exactly q = (
-  (λ e. (headerOf (q .token), payloadOf (q .token), recordOf (headerOf (q .token)) (payloadOf (q .token)) (tokenChoice q), accepted-only q e)),
+  (λ e. (headerOf (q .token), payloadOf (q .token), tokenRecord q, accepted-only q e)),
   (λ a. ap (λ (v : VerifyOutcome). v .gives .answer) (accepted-if q (a .0) (a .1) (a .2) (a .3))),
 )
 
@@ -105,10 +105,11 @@ pub accepted-gives : (q : VerifyCall) (h p : List ℕ) (r : Record) → Accepted
 accepted-gives = accepted-if
 
 -- WHAT IS SIGNED is the token under the secret of the key that the header chooses. No reader is mentioned.
-pub made-token : (q : SignCall) → Wellformed (q .table) → (c : Choice) → HeaderChooses (q .header) (termsOf (q .table)) c → made q ≡ madeBy q c
+pub made-token : (q : SignCall) → Wellformed (q .table) → (c : Choice) → HeaderChooses (q .header) (termsOf (q .table)) c
+    → made q ≡ tokenOf (secretOf (q .table) c) (q .header) (q .payload)
 made-token q table c w = ap (madeBy q) (sym (header-chooses-one (q .header) (termsOf (q .table)) (distinct (q .table) (λ n. n table)) c w))
 
-pub sign-gives : (q : SignCall) → signAnswer q ≡ 0 → (c : Choice) × HeaderChooses (q .header) (termsOf (q .table)) c × (signed q ≡ signedAs (madeBy q c) (q .room))
+pub sign-gives : (q : SignCall) → signAnswer q ≡ 0 → (c : Choice) × HeaderChooses (q .header) (termsOf (q .table)) c × (signed q ≡ signedAs (tokenOf (secretOf (q .table) c) (q .header) (q .payload)) (q .room))
 sign-gives q e = (signChoice q, sign-header q e .1, sign-is q e)
 
 -- THE PAYLOAD CALL, given a payload's length and the buffer that it fills, hands the payload back.
@@ -126,34 +127,34 @@ module _ (q : VerifyCall) (h p : List ℕ) (r : Record) (a : Accepted q h p r) w
   accepted-payload = ap payloadIn (accepted-if q h p r a) ∙ payload-back p (q .payloadRoom) r (a .payload-length)
 
   -- .. and signing these makes the token again.
-  pub accepted-again : (room : ℕ) → length (q .token) ≤ room → signed (again q h p room) ≡ signedAs (q .token) room
+  pub accepted-again : (room : ℕ) → length (q .token) ≤ room → signed (signOf h p (q .table) room) ≡ signedAs (q .token) room
   accepted-again room k =
-      sign-good (again q h p room) (accepted-signed q h p r room a k)
-      ∙ ap (λ (x : List ℕ). signedAs x room) (made-token (again q h p room) (a .table) (r .choice) (a .header) ∙ sym (a .token))
+      sign-good (signOf h p (q .table) room) (accepted-signed q h p r room a k)
+      ∙ ap (λ (x : List ℕ). signedAs x room) (made-token (signOf h p (q .table) room) (a .table) (r .choice) (a .header) ∙ sym (a .token))
 
 -- SIGN, THEN VERIFY: the token is accepted, with the header and the payload that went in and what the header decides
 pub sign-verify : (q : SignCall) → signAnswer q ≡ 0 → Bytes (q .payload) → (hr pr : ℕ) → length (q .header) ≤ hr → length (q .payload) ≤ pr
-    → let v : VerifyCall = record { token = tokenIn (signed q); table = q .table; headerRoom = hr; payloadRoom = pr } in
+    → let v = verifyOf (tokenIn (signed q)) (q .table) hr pr in
     (c : Choice) × HeaderChooses (q .header) (termsOf (q .table)) c × (verified v ≡ accepted (q .header) (q .payload) (recordOf (q .header) (q .payload) c) v)
 sign-verify q e pb hr pr k l =
-    let v : List ℕ → VerifyCall = λ t. record { token = t; table = q .table; headerRoom = hr; payloadRoom = pr } in (
+    let v : List ℕ → VerifyCall = λ t. verifyOf t (q .table) hr pr in (
       signChoice q,
       sign-header q e .1,
       ap (λ (s : SignOutcome). verified (v (tokenIn s))) (sign-is q e)
           ∙ ap (λ (t : List ℕ). verified (v t)) (take-append-seam (made q) _)
-          ∙ accepted-if (verifiedBack q hr pr) (q .header) (q .payload) (recordOf (q .header) (q .payload) (signChoice q)) (signed-accepted q e pb hr pr k l),
+          ∙ accepted-if (v (made q)) (q .header) (q .payload) (recordOf (q .header) (q .payload) (signChoice q)) (signed-accepted q e pb hr pr k l),
     )
 
 -- VERIFY, THEN SIGN
 pub verify-sign : (q : VerifyCall) → verifyAnswer q ≡ 0 → (room : ℕ) → length (q .token) ≤ room
-    → signed (again q (headerIn (verified q)) (payloadIn (verified q)) room) ≡ signedAs (q .token) room
+    → signed (signOf (headerIn (verified q)) (payloadIn (verified q)) (q .table) room) ≡ signedAs (q .token) room
 verify-sign q e room k =
     let a = accepted-only q e in
     let h = headerOf (q .token) in
     let p = payloadOf (q .token) in
     let r = recordOf h p (tokenChoice q) in
-    ap (λ (x : List ℕ). signed (again q x (payloadIn (verified q)) room)) (accepted-header q h p r a)
-    ∙ ap (λ (x : List ℕ). signed (again q h x room)) (accepted-payload q h p r a)
+    ap (λ (x : List ℕ). signed (signOf x (payloadIn (verified q)) (q .table) room)) (accepted-header q h p r a)
+    ∙ ap (λ (x : List ℕ). signed (signOf h x (q .table) room)) (accepted-payload q h p r a)
     ∙ accepted-again q h p r a room k
 
 -- ANSWER 6: "a buffer can't hold what belongs in it". "No buffer is refused for being too long."
@@ -163,24 +164,18 @@ module _ (q : VerifyCall) (fits : length (headerOf (q .token)) ≤ q .headerRoom
 
 -- beyond what it must hold, a buffer's length changes no answer
 module _ (t T : List ℕ) (hr pr : ℕ) where
-  abbrev lent : ℕ → ℕ → VerifyCall
-  lent hr pr = record { token = t; table = T; headerRoom = hr; payloadRoom = pr }
+  pub header-longer : length (headerOf t) ≤ hr → (hr′ : ℕ) → length (headerOf t) ≤ hr′ → verifyAnswer (verifyOf t T hr′ pr) ≡ verifyAnswer (verifyOf t T hr pr)
+  header-longer k hr′ l = rw (verify-number (verifyOf t T hr pr), verify-number (verifyOf t T hr′ pr), le-ltb hr _ k, le-ltb hr′ _ l)
 
-  pub header-longer : length (headerOf t) ≤ hr → (hr′ : ℕ) → length (headerOf t) ≤ hr′ → verifyAnswer (lent hr′ pr) ≡ verifyAnswer (lent hr pr)
-  header-longer k hr′ l = rw (verify-number (lent hr pr), verify-number (lent hr′ pr), le-ltb hr _ k, le-ltb hr′ _ l)
-
-  pub payload-longer : length (payloadOf t) ≤ pr → (pr′ : ℕ) → length (payloadOf t) ≤ pr′ → verifyAnswer (lent hr pr′) ≡ verifyAnswer (lent hr pr)
-  payload-longer k pr′ l = rw (verify-number (lent hr pr), verify-number (lent hr pr′), le-ltb pr _ k, le-ltb pr′ _ l)
+  pub payload-longer : length (payloadOf t) ≤ pr → (pr′ : ℕ) → length (payloadOf t) ≤ pr′ → verifyAnswer (verifyOf t T hr pr′) ≡ verifyAnswer (verifyOf t T hr pr)
+  payload-longer k pr′ l = rw (verify-number (verifyOf t T hr pr), verify-number (verifyOf t T hr pr′), le-ltb pr _ k, le-ltb pr′ _ l)
 
 module _ (h p T : List ℕ) (room : ℕ) (fits : finishedLength h p ≤ room) where
-  abbrev asked : ℕ → SignCall
-  asked room = record { header = h; payload = p; table = T; room = room }
+  pub sign-room : signAnswer (signOf h p T room) ≡ 6 → ⊥
+  sign-room e = let x = sign-first (signOf h p T room) 6 refl .0 e .0 in omega arith
 
-  pub sign-room : signAnswer (asked room) ≡ 6 → ⊥
-  sign-room e = let x = sign-first (asked room) 6 refl .0 e .0 in omega arith
-
-  pub sign-longer : (room′ : ℕ) → finishedLength h p ≤ room′ → signAnswer (asked room′) ≡ signAnswer (asked room)
-  sign-longer room′ k = rw (sign-number (asked room), sign-number (asked room′), le-ltb room _ fits, le-ltb room′ _ k)
+  pub sign-longer : (room′ : ℕ) → finishedLength h p ≤ room′ → signAnswer (signOf h p T room′) ≡ signAnswer (signOf h p T room)
+  sign-longer room′ k = rw (sign-number (signOf h p T room), sign-number (signOf h p T room′), le-ltb room _ fits, le-ltb room′ _ k)
 
 -- DEMAND 3
 

@@ -2,11 +2,11 @@
 use mathlib.Core.Path.{_≡_, refl, sym, ap, _∙_}
 use mathlib.Core.Logic.{⊎-elim}
 use mathlib.Core.Bool.{Bool, true, false, not}
-use Prim.Native.Nat.{ℕ, zero, suc, _≤_}
+use Prim.Native.Nat.{ℕ, _≤_}
 use native.Mathlib.Omega.{arith}
 use lib.ListN.{length}
 use Rattle.common.specs.First.{NoneOf, earlier, first, Decides, Agree, done, _by_}
-use Rattle.common.specs.FirstLaws.{not-on, earlier-next, _also_, none-stands, agree-append, decides-bool, decides-lt, decides-eq, decides-not, decides-or, decides-iff}
+use Rattle.common.specs.FirstLaws.{settle-good, settle-bad, settle-answer, not-on, earlier-next, _also_, none-stands, agree-append, decides-bool, decides-lt, decides-eq, decides-not, decides-or, decides-iff}
 use Rattle.common.specs.Decided.{when-false, decides-false}
 use Rattle.common.specs.Same.{same}
 use Rattle.common.specs.SameLaws.{decides-same}
@@ -23,28 +23,13 @@ use Rattle.jose_rules.specs.Promises.{distinct, deciding-agree}
 use Rattle.jws_rules.specs.Calls.{VerifyCall, SignCall}
 use Rattle.jws_rules.specs.Segments.{periods, front, back}
 use Rattle.jws_rules.specs.Token.{tokenMost, finishedLength, headerOf, payloadOf, signatureOf, sentInput, secretOf}
-use Rattle.jws_rules.specs.Outcomes.{VerifyOutcome, SignOutcome, recordOf, refused, accepted, unsigned, signedAs}
+use Rattle.jws_rules.specs.Outcomes.{VerifyOutcome, SignOutcome, refused, accepted, unsigned, signedAs}
 use Rattle.jws_rules.specs.Rules.{tokenRules, segmentRules, Differs, verifying, lengthRules, signing}
-use Rattle.jws_rules.specs.Tests.{settle, tokenChoice, tokenTests, segmentTests, verifyTests, verified, verifyAnswer, lengthTests, signTests, made, signed, signAnswer}
+use Rattle.jws_rules.specs.Tests.{tokenChoice, tokenRecord, tokenTests, segmentTests, verifyTests, verified, verifyAnswer, lengthTests, signTests, made, signed, signAnswer}
 
 -- a test isn't both
 not-both : {b : Bool} → b ≡ true → b ≡ false → ⊥
 not-both e k = when-false (decides-bool _) k e
-
--- SETTLED
-
-pub settle-good : {A : Type 0} (n : ℕ) (v : A) (f : ℕ → A) → n ≡ 0 → settle n v f ≡ v
-settle-good zero v f e = refl
-settle-good (suc n) v f e = absurd (omega arith)
-
-pub settle-bad : {A : Type 0} (n : ℕ) (v : A) (f : ℕ → A) → (n ≡ 0 → ⊥) → settle n v f ≡ f n
-settle-bad zero v f h = absurd (h refl)
-settle-bad (suc n) v f h = refl
-
--- the answer in what is given is the number
-settle-answer : {A : Type 0} (answer : A → ℕ) (n : ℕ) (v : A) (f : ℕ → A) → answer v ≡ 0 → ((m : ℕ) → answer (f m) ≡ m) → answer (settle n v f) ≡ n
-settle-answer answer zero v f e g = e
-settle-answer answer (suc n) v f e g = g (suc n)
 
 -- VERIFYING
 module _ (q : VerifyCall) where
@@ -97,7 +82,7 @@ module _ (q : VerifyCall) where
   verify-number = settle-answer (λ (v : VerifyOutcome). v .gives .answer) (first (verifyTests q)) _ _ refl (λ m. refl)
 
   pub verify-good : NoneOf (verifying q)
-      → verified q ≡ accepted (headerOf (q .token)) (payloadOf (q .token)) (recordOf (headerOf (q .token)) (payloadOf (q .token)) (tokenChoice q)) q
+      → verified q ≡ accepted (headerOf (q .token)) (payloadOf (q .token)) (tokenRecord q) q
   unfolding verified
   verify-good h = settle-good _ _ _ (none-stands verify-agree refl .1 h)
 
@@ -106,7 +91,7 @@ module _ (q : VerifyCall) where
   verify-clear e = none-stands verify-agree refl .0 (sym verify-number ∙ e)
 
   pub verify-is : verifyAnswer q ≡ 0
-      → verified q ≡ accepted (headerOf (q .token)) (payloadOf (q .token)) (recordOf (headerOf (q .token)) (payloadOf (q .token)) (tokenChoice q)) q
+      → verified q ≡ accepted (headerOf (q .token)) (payloadOf (q .token)) (tokenRecord q) q
   verify-is e = verify-good (verify-clear e)
 
   pub verify-bad : (verifyAnswer q ≡ 0 → ⊥) → verified q ≡ refused (verifyAnswer q) q

@@ -10,8 +10,8 @@ use Rattle.common.specs.Bytes.{Bytes}
 use Rattle.common.specs.First.{Rule, _on_}
 use Rattle.base64url_rules.specs.Base64url.{strict}
 use Rattle.hmac.specs.Hmac.{HMACSHA256}
-use Rattle.json_rules.specs.Rules.{longest}
-use Rattle.keytable_rules.specs.Table.{Wellformed}
+use Rattle.json_rules.specs.Rules.{longest, lengthRule}
+use Rattle.keytable_rules.specs.Table.{Wellformed, tableRule}
 use Rattle.jose_rules.specs.declared.Choice.{Choice}
 use Rattle.jose_rules.specs.Rules.{termsOf}
 use Rattle.jose_rules.specs.Header.{joseRules, HeaderChooses}
@@ -21,15 +21,18 @@ use Rattle.jws_rules.specs.Calls.{VerifyCall, SignCall}
 use Rattle.jws_rules.specs.Segments.{periods, front, back}
 use Rattle.jws_rules.specs.Token.{tokenMost, tokenOf, finishedLength, headerOf, payloadOf, signatureOf, sentInput, secretOf}
 
+-- 1, by the token's length: "the token has more than 16,384 bytes"
+abbrev pub tokenLengthRule : ℕ → Rule
+tokenLengthRule n = 1 on (tokenMost < n)
+
 -- VERIFYING, in the order "1 to 15"
 
 -- the token, the table and the periods
 abbrev pub tokenRules : VerifyCall → List Rule
 tokenRules q =
-    -- "the token has more than 16,384 bytes"
-    1 on (tokenMost < length (q .token))
-    -- "the table is bad"
-    ∷ 2 on (Wellformed (q .table) → ⊥)
+    -- 1 and 2
+    tokenLengthRule (length (q .token))
+    ∷ tableRule (q .table)
     -- "there are fewer than two periods, or more"
     ∷ 3 on (periods (q .token) ≡ 2 → ⊥)
     ∷ []
@@ -40,8 +43,8 @@ segmentRules q =
     let t = q .token in
     -- "one of the three segments isn't strict"
     4 on ((strict (front t) ≡ false) ⊎ (strict (front (back t)) ≡ false) ⊎ (strict (back (back t)) ≡ false))
-    -- "the header has more than 1,024 bytes"
-    ∷ 5 on (longest < length (headerOf t))
+    -- 5
+    ∷ lengthRule (length (headerOf t))
     -- "a buffer can't hold what belongs in it"
     ∷ 6 on ((q .headerRoom < length (headerOf t)) ⊎ (q .payloadRoom < length (payloadOf t)))
     ∷ []
@@ -68,8 +71,8 @@ verifying q = tokenRules q ++ (segmentRules q ++ (joseRules (headerOf (q .token)
 -- the token that would come out
 abbrev pub lengthRules : SignCall → List Rule
 lengthRules q =
-    -- "the token has more than 16,384 bytes"
-    1 on (tokenMost < finishedLength (q .header) (q .payload))
+    -- 1
+    tokenLengthRule (finishedLength (q .header) (q .payload))
     -- "a buffer can't hold what belongs in it"
     ∷ 6 on (q .room < finishedLength (q .header) (q .payload))
     ∷ []

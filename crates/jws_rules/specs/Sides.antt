@@ -19,7 +19,7 @@ use Rattle.jose_rules.specs.Rules.{termsOf}
 use Rattle.jose_rules.specs.Header.{joseRules}
 use Rattle.jose_rules.specs.HeaderLaws.{header-chooses}
 use Rattle.jose_rules.specs.Promises.{distinct}
-use Rattle.jws_rules.specs.Calls.{VerifyCall, SignCall}
+use Rattle.jws_rules.specs.Calls.{VerifyCall, verifyOf, SignCall}
 use Rattle.jws_rules.specs.Segments.{periods, front, back, period}
 use Rattle.jws_rules.specs.Token.{finishedLength, headerOf, payloadOf, signatureOf}
 use Rattle.jws_rules.specs.Rules.{verifying, signing}
@@ -81,17 +81,14 @@ module _ (q : SignCall) where
 
 -- THE SHORTEST TOKENS
 module _ (T : List ℕ) (table : Wellformed T) (hr pr : ℕ) where
-  abbrev of : List ℕ → VerifyCall
-  of t = record { token = t; table = T; headerRoom = hr; payloadRoom = pr }
-
   -- "no token at all (3) and `..` (7) with a good table"
-  pub empty-token : verifyAnswer (of []) ≡ 3
+  pub empty-token : verifyAnswer (verifyOf [] T hr pr) ≡ 3
   unfolding periods
-  empty-token = verify-first (of []) 3 refl .1 ((λ e. omega arith), (λ k. omega arith) also (λ n. n table) also tt)
+  empty-token = verify-first (verifyOf [] T hr pr) 3 refl .1 ((λ e. omega arith), (λ k. omega arith) also (λ n. n table) also tt)
 
-  pub two-periods : verifyAnswer (of (period ∷ period ∷ [])) ≡ 7
+  pub two-periods : verifyAnswer (verifyOf (period ∷ period ∷ []) T hr pr) ≡ 7
   unfolding periods front back decode strict alphabetic unusedBits read skip
   two-periods =
-      let q = of (period ∷ period ∷ []) in
+      let q = verifyOf (period ∷ period ∷ []) T hr pr in
       let n = before-6 q (before-5 q (omega arith) table refl refl refl refl) (omega arith) in
       verify-first q 7 refl .1 (not-derived deepest [] refl, before-7 q n (omega arith) (omega arith))

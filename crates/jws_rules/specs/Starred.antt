@@ -1,9 +1,11 @@
 -- The specification's starred rows ("Both sides of a limit"), in its order, as rows of one claim about the definitions.
 use mathlib.Core.Path.{_≡_, refl}
 use mathlib.Core.Bool.{true, false}
-use mathlib.Core.List.{List, []}
+use mathlib.Core.List.{List, [], _∷_}
 use Prim.Native.Nat.{ℕ, suc}
 use Prim.Native.String.{String}
+use lib.ListN.{length}
+use Rattle.common.specs.First.{first}
 use Rattle.common.specs.Same.{same}
 use Rattle.base64url_rules.specs.Base64url.{encode, decode, strict}
 use Rattle.base64url_rules.specs.Examples.{bytes as example, JC4wM, examples}
@@ -11,22 +13,23 @@ use Rattle.json_grammar_rules.specs.Bytes.{within, isWs, isDigit, isDigit19, is
 use Rattle.json_grammar_rules.specs.Value.{among, repeated, names, twice, plain, plainMembers}
 use Rattle.json_grammar_rules.specs.Grammar.{Derivation, bytes, readingOf}
 use Rattle.json_grammar_rules.specs.Reader.{read, readValue, readChars, readChar, charLead, escapeLeadOf, isUnescaped1, pastNumber, word, valueLead, skip}
-use Rattle.json_rules.specs.Answers.{place}
+use Rattle.json_rules.specs.Answers.{lengthTest, place}
 use Rattle.json_rules.specs.declared.Member.the-variants.{Refused as RefusedMember, Array, String as Text}
 use Rattle.json_rules.specs.Rows.{answers, rows}
 use Rattle.keytable_rules.specs.Key.{Key}
-use Rattle.decimal.specs.Integer.{integerOf, allDigits, after}
+use Rattle.decimal_rules.specs.Integer.{integerOf, allDigits, after}
 use Rattle.jose_rules.specs.declared.Decision.{Decision}
 use Rattle.jose_rules.specs.declared.Decision.the-variants.{Refused}
 use Rattle.common.specs.Ascii.{ascii}
 use Rattle.jose_rules.specs.Names.{alg, kid, typ, cty, crit, fmt, HS256}
 use Rattle.jose_rules.specs.Members.{stringsIn}
 use Rattle.jose_rules.specs.Facts.{lookup, namesFrom, algFact, kidFact, textFact, critFact, fmtFact, factsOf, missingOrWrong, criticalBroken}
-use Rattle.jose_rules.specs.Decision.{decisionWith}
+use Rattle.jose_rules.specs.HeaderTests.{joseTests, headerChoice}
+use Rattle.jose_rules.specs.Decision.{decisionBy}
 
--- what a header decides with these keys, by rules 7 to 14
+-- what a header decides with these keys, by rules 5 and 7 to 14
 abbrev pub decides : String → List Key → Decision
-decides s ks = decisionWith (ascii s) (record { keys = ks })
+decides s ks = decisionBy (first (lengthTest (length (ascii s)) ∷ joseTests (ascii s) (record { keys = ks }))) (headerChoice (ascii s) ks)
 
 pub record Starred : Type 0 where
   -- bytes 36 46 48 50 encode as `JC4wMg`
@@ -52,7 +55,7 @@ pub record Starred : Type 0 where
   pub one-reading : (t u : Derivation) → bytes t ≡ ascii "{\"alg\":\"HS256\",\"x\":[ ]}" → bytes u ≡ ascii "{\"alg\":\"HS256\",\"x\":[ ]}" → readingOf t ≡ readingOf u
 
 pub starred : Starred
-unfolding HS256 decisionWith missingOrWrong criticalBroken namesFrom algFact kidFact textFact critFact fmtFact factsOf lookup stringsIn integerOf allDigits after ascii alg kid typ cty crit fmt same among repeated names twice plain plainMembers
+unfolding HS256 missingOrWrong criticalBroken namesFrom algFact kidFact textFact critFact fmtFact factsOf lookup stringsIn integerOf allDigits after ascii alg kid typ cty crit fmt same among repeated names twice plain plainMembers
     read readValue readChars readChar charLead escapeLeadOf isUnescaped1 pastNumber word valueLead skip within isWs isDigit isDigit19 isE isSign isHex allHex hex4
 starred =
     record {

@@ -1,28 +1,28 @@
 -- The rules' tests, phase by phase, and what verifying and signing give: the definitions that the contracts cite.
 use mathlib.Core.Bool.{Bool, not, _||_}
 use mathlib.Core.List.{List, [], _∷_, _++_}
-use Prim.Native.Nat.{ℕ, zero, suc}
+use Prim.Native.Nat.{ℕ}
 use lib.Dec.{ltb, eqb}
 use lib.ListN.{length}
-use Rattle.common.specs.First.{Test, _when_, first}
+use Rattle.common.specs.First.{Test, _when_, first, settle}
 use Rattle.common.specs.Same.{same}
 use Rattle.base64url_rules.specs.Base64url.{decode, strict}
 use Rattle.hmac.specs.Hmac.{HMACSHA256}
-use Rattle.json_rules.specs.Rules.{longest}
-use Rattle.keytable_rules.specs.Table.{badTable, keys}
+use Rattle.json_rules.specs.Answers.{lengthTest}
+use Rattle.keytable_rules.specs.Table.{tableTest, keys}
 use Rattle.jose_rules.specs.declared.Choice.{Choice}
 use Rattle.jose_rules.specs.Rules.{termsOf}
 use Rattle.jose_rules.specs.HeaderTests.{joseTests, headerChoice}
 use Rattle.jose_rules.specs.Decision.{decidingTests}
+use Rattle.jws_rules.specs.declared.Record.{Record}
 use Rattle.jws_rules.specs.Calls.{VerifyCall, SignCall}
 use Rattle.jws_rules.specs.Segments.{periods, front, back}
 use Rattle.jws_rules.specs.Token.{tokenMost, tokenOf, finishedLength, headerOf, payloadOf, signatureOf, sentInput, secretOf}
 use Rattle.jws_rules.specs.Outcomes.{VerifyOutcome, SignOutcome, recordOf, refused, accepted, unsigned, signedAs}
 
--- 0 is success, and any other number a refusal
-abbrev pub settle : {A : Type 0} → ℕ → A → (ℕ → A) → A
-settle zero good bad = good
-settle (suc n) good bad = bad (suc n)
+-- 1, by the token's length
+abbrev pub tokenLengthTest : ℕ → Test
+tokenLengthTest n = 1 when ltb tokenMost n
 
 -- VERIFYING
 
@@ -30,12 +30,16 @@ settle (suc n) good bad = bad (suc n)
 abbrev pub tokenChoice : VerifyCall → Choice
 tokenChoice q = headerChoice (headerOf (q .token)) (keys (q .table))
 
+-- what is given of a token that no rule refuses
+abbrev pub tokenRecord : VerifyCall → Record
+tokenRecord q = recordOf (headerOf (q .token)) (payloadOf (q .token)) (tokenChoice q)
+
 abbrev pub tokenTests : VerifyCall → List Test
-tokenTests q = 1 when ltb tokenMost (length (q .token)) ∷ 2 when badTable (q .table) ∷ 3 when not (eqb (periods (q .token)) 2) ∷ []
+tokenTests q = tokenLengthTest (length (q .token)) ∷ tableTest (q .table) ∷ 3 when not (eqb (periods (q .token)) 2) ∷ []
 
 -- by whether the three segments are strict, and by the lengths n and m of header and payload, with buffers of hr and pr bytes
 abbrev pub openedTests : Bool → Bool → Bool → ℕ → ℕ → ℕ → ℕ → List Test
-openedTests x y z n m hr pr = 4 when (not x || (not y || not z)) ∷ 5 when ltb longest n ∷ 6 when (ltb hr n || ltb pr m) ∷ []
+openedTests x y z n m hr pr = 4 when (not x || (not y || not z)) ∷ lengthTest n ∷ 6 when (ltb hr n || ltb pr m) ∷ []
 
 -- of the segments themselves
 abbrev pub segmentTests : List ℕ → List ℕ → List ℕ → ℕ → ℕ → List Test
@@ -59,7 +63,7 @@ verifyTests q = tokenTests q ++ fromSegments q
 unfoldable pub verified : VerifyCall → VerifyOutcome
 verified q =
     settle (first (verifyTests q))
-    (accepted (headerOf (q .token)) (payloadOf (q .token)) (recordOf (headerOf (q .token)) (payloadOf (q .token)) (tokenChoice q)) q)
+    (accepted (headerOf (q .token)) (payloadOf (q .token)) (tokenRecord q) q)
     (λ n. refused n q)
 
 abbrev pub verifyAnswer : VerifyCall → ℕ
@@ -69,7 +73,7 @@ verifyAnswer q = verified q .gives .answer
 
 -- by the length n of the token that would come out, with a buffer of so many bytes
 abbrev pub lengthTests : ℕ → ℕ → List Test
-lengthTests n room = 1 when ltb tokenMost n ∷ 6 when ltb room n ∷ []
+lengthTests n room = tokenLengthTest n ∷ 6 when ltb room n ∷ []
 
 abbrev pub signTests : SignCall → List Test
 signTests q = decidingTests (q .header) (q .table) ++ lengthTests (finishedLength (q .header) (q .payload)) (q .room)

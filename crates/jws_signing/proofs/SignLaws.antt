@@ -7,7 +7,7 @@ use native.Mathlib.Omega.{arith}
 use lib.ListN.{length}
 use borrow.Author.Tests.{lt-ltb, le-ltb}
 use Rattle.common.specs.First.{first}
-use Rattle.common.specs.FirstLaws.{first-within, first-after}
+use Rattle.common.specs.FirstLaws.{first-within, first-after, settle-bad}
 use Rattle.base64url_rules.specs.Base64url.{encodedLength}
 use Rattle.base64url_rules.specs.LengthLaws.{length-encode, encoded-length}
 use Rattle.json_rules.specs.Rules.{longest}
@@ -18,7 +18,6 @@ use Rattle.jose_rules.specs.Decision.{decidingTests, decision}
 use Rattle.jose_rules.specs.DecisionLaws.{refused, chosen-by}
 use Rattle.jws_rules.specs.Calls.{SignCall}
 use Rattle.jws_rules.specs.Outcomes.{unsigned, signedAs}
-use Rattle.jws_rules.specs.RuleLaws.{settle-bad}
 use Rattle.jws_rules.specs.Tests.{lengthTests, signTests, signed}
 use Rattle.jws_rules.specs.Token.{tokenMost, tokenOf, finishedLength, secretOf}
 use Rattle.jws_signing.specs.Written.{finished}

@@ -4,10 +4,10 @@ use mathlib.Core.List.{List}
 use Prim.Native.Nat.{ℕ, _≤_}
 use lib.ListN.{length, take}
 use Rattle.common.specs.Buffer.{filled}
-use Rattle.common.specs.First.{first}
+use Rattle.common.specs.First.{first, settle}
 use Rattle.jws_rules.specs.declared.Signed.{Signed}
 use Rattle.jws_rules.specs.Outcomes.{SignOutcome, signedAs, unsigned}
-use Rattle.jws_rules.specs.Tests.{settle, lengthTests}
+use Rattle.jws_rules.specs.Tests.{lengthTests}
 use Rattle.jws_rules.specs.Token.{tokenOf, finishedLength}
 
 -- a refusal's result

@@ -6,6 +6,7 @@ use mathlib.Core.List.{List, [], _∷_}
 use Prim.Native.Nat.{ℕ, zero, suc, _+_, _*_, _≤_, _<_}
 use lib.Dec.{eqb, leb, ltb}
 use lib.ListN.{length, getD, take, drop}
+use Rattle.common.specs.First.{Rule, _on_, Test, _when_}
 use Rattle.common.specs.BigEndian.{number2, number4}
 use Rattle.common.specs.Same.{same}
 use Rattle.keytable_rules.specs.Key.{Key}
@@ -158,6 +159,13 @@ isWellformed T =
 
 unfoldable pub badTable : List ℕ → Bool
 badTable T = not (isWellformed T)
+
+-- 2: "the table is bad"
+abbrev pub tableRule : List ℕ → Rule
+tableRule T = 2 on (Wellformed T → ⊥)
+
+abbrev pub tableTest : List ℕ → Test
+tableTest T = 2 when badTable T
 
 -- ITS MEANING, used where the table isn't bad
 

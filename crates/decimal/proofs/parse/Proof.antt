@@ -6,8 +6,8 @@ use borrow.Author.Needs.{needs}
 use mir.Syntax.{w64}
 use mir.ValLaws.{toZ-ofZ, toZ-pos}
 use denote.Ref.{now}
-use Rattle.decimal.specs.declared.Integer.the-variants.{Is}
-use Rattle.decimal.specs.Integer.{integerOf}
+use Rattle.decimal_rules.specs.declared.Integer.the-variants.{Is}
+use Rattle.decimal_rules.specs.Integer.{integerOf}
 use Rattle.decimal.proofs.Laws.{nothing, signed, with-minus, without, at-most}
 use Rattle.decimal.proofs.parse.Statement.{statement}
 use Rattle.decimal.proofs.parse.Tie as tie

@@ -49,7 +49,7 @@ returns-2 c =
     let f = c .before .before .before in
     let k = f .before in
     let t = k .before in
-    c .decided .ensures
+    c .with-texts .ensures
     ∙ decision-judged _ _ (fine (t .before)) (all-shown _ (members t) (k .known-from .ensures)) (facts-are f) (c .before .before .no-facts .ensures) (c .before .judge .ensures)
 
 pub decide-with-spec : {M : Type 1} → statement M

@@ -7,7 +7,7 @@ use mir.Facts.{toZ-ofZ}
 use denote.Ref.{now}
 use Rattle.json_members.specs.Members.{part}
 use Rattle.json_members.specs.Slots.{sizeOf}
-use Rattle.decimal.specs.Integer.{integerOf}
+use Rattle.decimal_rules.specs.Integer.{integerOf}
 use Rattle.jose_facts.proofs.SaysLaws.{fmt-absent, fmt-said-number, fmt-said-none, fmt-wrong, number-there}
 use borrow.Author.Needs.{needs}
 use Rattle.jose_facts.proofs.says.fmt_of.Statement.{statement}

@@ -4,8 +4,8 @@ use Prim.Native.String.{String}
 use lib.IntN.{ℤ, pos, negℤ}
 use Rattle.common.specs.Ascii.{ascii}
 use Rattle.common.specs.Ranges.{within, isDigit}
-use Rattle.decimal.specs.declared.Integer.the-variants.{Is, No}
-use Rattle.decimal.specs.Integer.{integerOf, allDigits, after}
+use Rattle.decimal_rules.specs.declared.Integer.the-variants.{Is, No}
+use Rattle.decimal_rules.specs.Integer.{integerOf, allDigits, after}
 
 abbrev pub Reads : String → ℤ → Type 0
 Reads s z = integerOf (ascii s) ≡ Is z

@@ -6,8 +6,8 @@ use lib.Dec.{eqb}
 use lib.IntN.{ℤ, pos, negℤ}
 use lib.Signed.{leZ}
 use Rattle.common.specs.Ranges.{isDigit}
-use Rattle.decimal.specs.declared.Integer.{Integer}
-use Rattle.decimal.specs.declared.Integer.the-variants.{Is, No}
+use Rattle.decimal_rules.specs.declared.Integer.{Integer}
+use Rattle.decimal_rules.specs.declared.Integer.the-variants.{Is, No}
 
 unfoldable pub allDigits : List ℕ → Bool
 allDigits [] = true

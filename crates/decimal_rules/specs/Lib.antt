@@ -1,0 +1,3 @@
+-- An integer's decimal text: the definition, and examples.
+pub mod Integer
+pub mod Examples
