@@ -1,4 +1,6 @@
-// The answers of every call, numbered as in docs/SPECIFICATION.md and named as in include/jws.h. This crate has no code.
+// The answers of every call, numbered as in docs/SPECIFICATION.md and named as in include/jws.h.
+ghost use mathlib.Core.Path.{_≡_};
+ghost use mathlib.Core.List.{[], _∷_};
 
 // Accepted, signed, or the member found.
 pub const DONE: u8 = 0;
@@ -50,3 +52,28 @@ pub const SIGNATURE_DIFFERS: u8 = 15;
 
 // The top object has no such member.
 pub const NO_SUCH_MEMBER: u8 = 16;
+
+// All of them, by their numbers. Rules out two names exchanged, and one number for two answers.
+pub fn all() -> [u8; 17]
+    ensures { λ r. ⌜ r ≡ 0 ∷ 1 ∷ 2 ∷ 3 ∷ 4 ∷ 5 ∷ 6 ∷ 7 ∷ 8 ∷ 9 ∷ 10 ∷ 11 ∷ 12 ∷ 13 ∷ 14 ∷ 15 ∷ 16 ∷ [] ⌝ }
+{
+    [
+        DONE,
+        TOKEN_TOO_LONG,
+        BAD_TABLE,
+        NOT_TWO_PERIODS,
+        NOT_BASE64URL,
+        HEADER_TOO_LONG,
+        BUFFER_TOO_SHORT,
+        NOT_DERIVED,
+        NAME_TWICE,
+        WRONG_KIND,
+        CRITICAL,
+        WRONG_ALG,
+        NO_KEY,
+        ALG_NOT_ALLOWED,
+        FORMAT_NOT_ALLOWED,
+        SIGNATURE_DIFFERS,
+        NO_SUCH_MEMBER,
+    ]
+}

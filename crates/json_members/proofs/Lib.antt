@@ -1,3 +1,2 @@
 -- Laws for the code's proofs.
 pub mod StepPaths
-pub mod TakenLaws

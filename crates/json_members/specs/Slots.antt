@@ -7,12 +7,11 @@ use mathlib.Core.Option.{Option, none, some}
 use Prim.Native.Nat.{ℕ, _+_, _-_, _<_}
 use lib.ListN.{length}
 use Rattle.common.specs.Same.{same}
-use Rattle.json_characters.specs.Utf8.{utf8}
 use Rattle.json_grammar_rules.specs.Value.{Value, LItem, LMembers, item, named, lnil, lcons, plainItem}
 use Rattle.json_grammar_rules.specs.declared.Kind.{Kind}
 use Rattle.json_string.specs.declared.End.{End}
 use Rattle.json_string.specs.declared.End.the-variants.{At}
-use Rattle.json_string.specs.Strings.{NameAt}
+use Rattle.json_string.specs.Strings.{NameAt, textIs}
 use Rattle.json_rules.specs.declared.Place.{Place}
 use Rattle.json_members.specs.declared.slots.Slot.{Slot}
 use Rattle.json_members.specs.declared.slots.Slot.the-variants.{Absent, Is}
@@ -77,13 +76,17 @@ takenBy b m (Is k x) = Is k x
 takenBy true m Absent = Is (m .kind) (m .value)
 takenBy false m Absent = Absent
 
--- .. whose name stands past p, and which goes by the word w
-pub record Taken (h : List ℕ) (p : ℕ) (m : Entry) (w : List ℕ) (old new : Slot) : Type 0 where
-  pub is : (cs : List ℕ) → NameAt h (p + 1) cs → new ≡ takenBy (same (utf8 cs) w) m old
+-- .. which stands at p, where the slot is that of the word w
+abbrev pub takenAt : List ℕ → ℕ → Entry → List ℕ → Slot → Slot
+takenAt h p m w s = takenBy (textIs h (p + 1) w) m s
 
 -- a place in the text, or none
 pub record Within (h : List ℕ) (r : End) : Type 0 where
   pub at : (p : ℕ) → r ≡ At p → p < length h
+
+-- .. where members stand, if it is one
+abbrev pub Stand : List ℕ → ℕ → End → Type 0
+Stand h d r = Within h r × ((ms : LMembers) × MembersFrom h d r ms)
 
 -- THE WALK OVER THE MEMBERS, with a slot for each w of W in a record of type S
 

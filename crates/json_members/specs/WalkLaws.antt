@@ -8,14 +8,14 @@ use Rattle.common.specs.Same.{same}
 use Rattle.json_grammar_rules.specs.Value.{LValue, LItem, LMembers, item, named, lnil, lcons}
 use Rattle.json_string.specs.declared.End.{End}
 use Rattle.json_string.specs.declared.End.the-variants.{At, Bad}
-use Rattle.json_string.specs.WordLaws.{isAscii, word-same}
+use Rattle.json_string.specs.WordLaws.{isAscii, text-word}
 use Rattle.json_members.specs.declared.slots.Slot.{Slot}
 use Rattle.json_members.specs.declared.slots.Slot.the-variants.{Absent, Is}
 use Rattle.json_members.specs.declared.steps.Entry.{Entry}
 use Rattle.json_members.specs.Members.{MembersAt, MembersFrom, EntryAt, ValueIs}
 use Rattle.json_members.specs.MemberLaws.{no-members}
 use Rattle.json_members.specs.StepLaws.{first-name}
-use Rattle.json_members.specs.Slots.{itemOf, Shows, ShowsAll, NoneKnown, takenBy, Taken, Noted, Walked, KnownFrom}
+use Rattle.json_members.specs.Slots.{itemOf, Shows, ShowsAll, NoneKnown, takenBy, takenAt, Noted, Walked, KnownFrom}
 
 -- ONE NAME
 
@@ -55,9 +55,9 @@ pub record Walking {W S : Type 0} (name : W → List ℕ) (slot : W → S → Sl
 
 module _ {W S : Type 0} {name : W → List ℕ} {slot : W → S → Slot} {h : List ℕ} where
   -- each slot is taken by the word of its name
-  pub noted : {p : ℕ} {m : Entry} {old new : S} → ((w : W) → isAscii (name w) ≡ true) → ((w : W) → Taken h p m (name w) (slot w old) (slot w new))
+  pub noted : {p : ℕ} {m : Entry} {old new : S} → ((w : W) → isAscii (name w) ≡ true) → ((w : W) → slot w new ≡ takenAt h p m (name w) (slot w old))
       → Noted name slot h p m old new
-  noted {p} {m} {old} a t = record { is = λ cs n w. t w .is cs n ∙ ap (λ (q : Bool). takenBy q m (slot w old)) (word-same (name w) (a w) h (p + 1) cs n) }
+  noted {p} {m} {old} a t = record { is = λ cs n w. t w ∙ ap (λ (q : Bool). takenBy q m (slot w old)) (text-word (name w) (a w) h (p + 1) cs n) }
 
   pub walk-start : {from d : ℕ} {m : S} → NoneKnown slot m → Walking name slot h from from d m
   walk-start {d = d} e = record {

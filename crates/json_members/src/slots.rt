@@ -2,7 +2,7 @@
 ghost use mathlib.Core.Path.{_≡_};
 ghost use Prim.Native.Nat.{_<_};
 ghost use lib.ListN.{length};
-ghost use Rattle.json_members.specs.Slots.{isThere, Taken, byKind, isString, isNumber, isArray, sizeOf};
+ghost use Rattle.json_members.specs.Slots.{isThere, takenAt, byKind, isString, isNumber, isArray, sizeOf};
 use crate::steps::Entry;
 use json_grammar_rules::Kind;
 use json_rules::Place;
@@ -28,7 +28,7 @@ pub fn there(slot: Slot) -> bool
 // Rules out the last member with a name for the first, and a name that only begins with the word.
 pub fn taken(text: &[u8], p: usize, m: Entry, word: &[u8], slot: Slot) -> Slot
     requires { ⌜ p < length (now text) ⌝ }
-    ensures { λ r. ⌜ Taken (now (text .entry)) p m (now (word .entry)) slot r ⌝ }
+    ensures { λ r. ⌜ r ≡ takenAt (now (text .entry)) p m (now (word .entry)) slot ⌝ }
 {
     if there(slot) {
         return slot;

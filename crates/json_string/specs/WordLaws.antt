@@ -29,7 +29,7 @@ scalars none = none
 scalars (more {x} l ls) = let k : x ≤ 0xD7FF = omega arith in more (low k) (scalars ls)
 
 -- a string of the text and a word of ASCII are compared by code points
-pub word-same : (w : List ℕ) → isAscii w ≡ true → (h : List ℕ) (p : ℕ) (cs : List ℕ) → NameAt h p cs → same (utf8 cs) w ≡ same cs w
+word-same : (w : List ℕ) → isAscii w ≡ true → (h : List ℕ) (p : ℕ) (cs : List ℕ) → NameAt h p cs → same (utf8 cs) w ≡ same cs w
 word-same w e h p cs a =
     let small = ascii w e in
     decided

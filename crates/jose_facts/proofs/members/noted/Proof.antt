@@ -6,7 +6,7 @@ use Prim.Native.Nat.{ℕ}
 use Rattle.common.specs.Ascii.{ascii}
 use Rattle.json_string.specs.WordLaws.{isAscii}
 use Rattle.json_members.specs.declared.steps.Entry.{Entry}
-use Rattle.json_members.specs.Slots.{Taken, Noted}
+use Rattle.json_members.specs.Slots.{takenAt, Noted}
 use Rattle.json_members.specs.WalkLaws as walk
 use Rattle.jose_rules.specs.Names.{alg, kid, typ, cty, crit, fmt}
 use Rattle.jose_facts.specs.declared.members.Known.{Known}
@@ -25,11 +25,12 @@ words theCrit = refl
 words theFmt = refl
 
 module _ {h : List ℕ} {p : ℕ} {m : Entry} {old new : Known} where
-  all : Taken h p m alg (old .alg) (new .alg) → Taken h p m kid (old .kid) (new .kid) → Taken h p m typ (old .typ) (new .typ)
-      → Taken h p m cty (old .cty) (new .cty) → Taken h p m crit (old .crit) (new .crit) → Taken h p m fmt (old .fmt) (new .fmt) → Noted name slot h p m old new
+  all : new .alg ≡ takenAt h p m alg (old .alg) → new .kid ≡ takenAt h p m kid (old .kid) → new .typ ≡ takenAt h p m typ (old .typ)
+      → new .cty ≡ takenAt h p m cty (old .cty) → new .crit ≡ takenAt h p m crit (old .crit) → new .fmt ≡ takenAt h p m fmt (old .fmt)
+      → Noted name slot h p m old new
   all a k t c r f = walk.noted words by
     where
-      by : (w : Which) → Taken h p m (name w) (slot w old) (slot w new)
+      by : (w : Which) → slot w new ≡ takenAt h p m (name w) (slot w old)
       by theAlg = a
       by theKid = k
       by theTyp = t
