@@ -1,7 +1,7 @@
 // The known members of an object, found in one walk over its members.
 ghost use Prim.Native.Nat.{_<_};
 ghost use lib.ListN.{length};
-ghost use Rattle.json_members.specs.Slots.{Stand, NoneKnown, Noted, Walked, KnownFrom};
+ghost use Rattle.json_members.specs.Slots.{Within, NoneKnown, Noted, Walked, KnownFrom};
 ghost use Rattle.jose_facts.specs.Known.{name, slot};
 use json_members::Entry;
 use json_members::Slot;
@@ -21,7 +21,7 @@ pub struct Known {
 // The known ones of the members that begin at `from`, if there are any; `depth` is the depth left for their values.
 // Rules out the members of the top object for those of an object within it, and the last member with a name for the first.
 pub fn known_from(text: &[u8], from: End, depth: usize) -> Known
-    requires { ⌜ Stand (now text) depth from ⌝ }
+    requires { ⌜ Within (now text) from ⌝ }
     ensures { λ r. ⌜ KnownFrom name slot (now (text .entry)) from depth r ⌝ }
 {
     match from {

@@ -84,10 +84,6 @@ takenAt h p m w s = takenBy (textIs h (p + 1) w) m s
 pub record Within (h : List ℕ) (r : End) : Type 0 where
   pub at : (p : ℕ) → r ≡ At p → p < length h
 
--- .. where members stand, if it is one
-abbrev pub Stand : List ℕ → ℕ → End → Type 0
-Stand h d r = Within h r × ((ms : LMembers) × MembersFrom h d r ms)
-
 -- THE WALK OVER THE MEMBERS, with a slot for each w of W in a record of type S
 
 module _ {W S : Type 0} (name : W → List ℕ) (slot : W → S → Slot) where

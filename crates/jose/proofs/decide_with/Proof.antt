@@ -36,7 +36,7 @@ returns : tie.Need-returns
 returns c = decision-unread _ _ (c .before .check-text .ensures) (c .if1 .taken)
 
 known-from-requires : tie.Need-known-from-requires
-known-from-requires c κs = (top-within (top-members _ (c .top-members .ensures)), (_, members c))
+known-from-requires c κs = top-within (top-members _ (c .top-members .ensures))
 
 facts-of-requires : tie.Need-facts-of-requires
 facts-of-requires c κs = (c .before .before .before .before .before .before .pre, omega arith, some-shown _ (members (c .before)) (c .known-from .ensures))

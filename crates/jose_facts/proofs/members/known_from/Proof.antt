@@ -5,7 +5,7 @@ use Rattle.jose_facts.proofs.members.known_from.Statement.{statement}
 use Rattle.jose_facts.proofs.members.known_from.Tie as tie
 
 walk-requires : tie.Need-walk-requires
-walk-requires c κs = c .before .before .before .before .pre .0 .at _ (c .before .from .given .1)
+walk-requires c κs = c .before .before .before .before .pre .at _ (c .before .from .given .1)
 
 returns : tie.Need-returns
 returns c = from-some (c .before .before .from .given .1) (c .walk .ensures)
