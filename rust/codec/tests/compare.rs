@@ -1,6 +1,6 @@
 //! The proved codecs against the reference on generated input, good and damaged.
 
-use generate::rng::Rng;
+use case_generator::rng::Rng;
 use codec::Answer;
 use reference::base64url::{self, DecodeError};
 
@@ -20,7 +20,7 @@ fn room(rng: &mut Rng, needed: usize) -> Vec<u8> {
 #[test]
 fn decoding_agrees() {
     let mut seen = [0; 3];
-    for (case, text) in generate::base64url_texts(1).take(CASES).enumerate() {
+    for (case, text) in case_generator::base64url_texts(1).take(CASES).enumerate() {
         let mut rng = Rng::of_case(2, case as u64);
         let mut ours = room(&mut rng, base64url::decoded_len(text.len()));
         let garbage = ours.clone();
@@ -50,7 +50,7 @@ fn decoding_agrees() {
 #[test]
 fn encoding_agrees() {
     let mut seen = [0; 2];
-    for (case, bytes) in generate::messages(3).take(CASES).enumerate() {
+    for (case, bytes) in case_generator::messages(3).take(CASES).enumerate() {
         let mut rng = Rng::of_case(4, case as u64);
         let text = base64url::encode(&bytes);
         let mut ours = room(&mut rng, text.len());
@@ -72,7 +72,7 @@ fn encoding_agrees() {
 
 #[test]
 fn hashing_agrees() {
-    for message in generate::messages(5).take(CASES / 4) {
+    for message in case_generator::messages(5).take(CASES / 4) {
         assert_eq!(codec::sha256(&message), reference::sha256::digest(&message));
     }
     // Every length around the block boundaries.
@@ -85,7 +85,7 @@ fn hashing_agrees() {
 #[test]
 fn macs_agree() {
     let mut rng = Rng::new(6);
-    for message in generate::messages(7).take(CASES / 8) {
+    for message in case_generator::messages(7).take(CASES / 8) {
         let length = rng.below(200);
         let key = rng.bytes(length);
         assert_eq!(
@@ -107,7 +107,7 @@ fn macs_agree() {
 #[test]
 fn reference_names_the_same_faults() {
     // The two ways of the reference agree, so that either may stand for it above.
-    for text in generate::base64url_texts(8).take(CASES) {
+    for text in case_generator::base64url_texts(8).take(CASES) {
         let mut out = vec![0; base64url::decoded_len(text.len())];
         match (base64url::decode(&text), base64url::decode_into(&text, &mut out)) {
             (Ok(bytes), Ok(n)) => assert_eq!(bytes, out[..n]),

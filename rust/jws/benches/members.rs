@@ -7,7 +7,7 @@ mod shapes;
 
 use std::hint::black_box;
 
-use timing::{least, least_of_both, report};
+use stopwatch::{least, least_of_both, report};
 
 const ROUNDS: usize = 1_000;
 const SEARCH_ROUNDS: usize = 25;

@@ -3,7 +3,7 @@
 
 use std::hint::black_box;
 
-use timing::{least, least_of_both, report};
+use stopwatch::{least, least_of_both, report};
 
 const TABLE: &[u8] = include_bytes!("../../../crates/verify_token/data/table.bin");
 const HEADER: &[u8] = b"{\"typ\":\"JWT\",\r\n \"alg\":\"HS256\"}";

@@ -23,19 +23,19 @@ fn main() {
         .nth(1)
         .map_or(1_000, |word| word.parse().expect("a number"));
     let mut answers = [0; 17];
-    for case in generate::verify_cases(41).take(count) {
+    for case in case_generator::verify_cases(41).take(count) {
         let (token, table) = (exact(case.token), exact(case.table));
         let (mut header, mut payload) = (exact(vec![1; case.header_len]), exact(vec![2; case.payload_len]));
         let result = jws::verify(&token, &table, &mut header, &mut payload);
         answers[number(result, &[&header, &payload])] += 1;
     }
-    for case in generate::sign_cases(42).take(count) {
+    for case in case_generator::sign_cases(42).take(count) {
         let (header, payload, table) = (exact(case.header), exact(case.payload), exact(case.table));
         let mut token = exact(vec![3; case.token_len]);
         let result = jws::sign(&header, &payload, &table, &mut token);
         answers[number(result, &[&token])] += 1;
     }
-    for case in generate::member_cases(43).take(count) {
+    for case in case_generator::member_cases(43).take(count) {
         let header = exact(case.header);
         answers[number(jws::member(&header, case.k), &[])] += 1;
     }

@@ -3,9 +3,9 @@
 
 mod common;
 
+use case_generator::header;
+use case_generator::rng::Rng;
 use common::{by_answer, cases_or, raw_sign, raw_verify, reference_sign, reference_verify};
-use generate::header;
-use generate::rng::Rng;
 
 const SEED: u64 = 31;
 
@@ -29,7 +29,7 @@ fn header_rules_agree() {
     let room = reference::token::token_len(1_024, 0);
     let mut calls = [0; 17];
     let (mut named, mut formats, mut texts) = ([0; 2], [0; 9], [0; 2]);
-    for (case, table) in generate::tables(SEED).take(count).enumerate() {
+    for (case, table) in case_generator::tables(SEED).take(count).enumerate() {
         let header = header_for(&mut Rng::of_case(SEED + 1, case as u64), &table);
         let expected = reference_sign(&header, b"", &table, room);
         let signed = raw_sign(&header, b"", &table, room);

@@ -24,7 +24,7 @@ fn members_agree() {
     let mut read_headers = 0;
     let mut calls = [0; 17];
     let mut kinds = [0; 8];
-    for (case, header) in generate::headers(SEED).take(cases()).enumerate() {
+    for (case, header) in case_generator::headers(SEED).take(cases()).enumerate() {
         let read = reference::json::read(&header);
         read_headers += usize::from(read.is_ok());
         let count = read.as_ref().map_or(2, |members| members.len());

@@ -55,7 +55,7 @@ fn the_oracle_agrees() {
     let mut lines = oracle.stdin.take().unwrap();
     let writer = thread::spawn(move || {
         let mut calls = [0; 17];
-        for header in generate::headers(SEED).take(cases()) {
+        for header in case_generator::headers(SEED).take(cases()) {
             lines.write_all(line(&header, &mut calls).as_bytes()).unwrap();
         }
         calls

@@ -36,7 +36,7 @@ fn seen_often(calls: &[usize; 17], answers: &[usize]) {
 #[test]
 fn verify_agrees() {
     let mut calls = [0; 17];
-    for case in generate::verify_cases(21).take(cases()) {
+    for case in case_generator::verify_cases(21).take(cases()) {
         let verified = verify(&case.token, &case.table, case.header_len, case.payload_len);
         calls[usize::from(verified.answer)] += 1;
         if verified.answer == 0 {
@@ -53,7 +53,7 @@ fn verify_agrees() {
 #[test]
 fn sign_agrees() {
     let mut calls = [0; 17];
-    for case in generate::sign_cases(22).take(cases()) {
+    for case in case_generator::sign_cases(22).take(cases()) {
         let signed = sign(&case.header, &case.payload, &case.table, case.token_len);
         calls[usize::from(signed.answer)] += 1;
         if signed.answer == 0 {

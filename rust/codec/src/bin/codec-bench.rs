@@ -2,7 +2,7 @@
 
 use std::hint::black_box;
 
-use timing::{least_of_both, report};
+use stopwatch::{least_of_both, report};
 
 const ROUNDS: usize = 400;
 

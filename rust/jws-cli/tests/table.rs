@@ -2,9 +2,9 @@
 
 mod common;
 
-use commands::encoding::{base64url, hex, id};
+use case_generator::rng::Rng;
 use common::{published, Folder, Ran, PUBLISHED_SECRET, TABLE};
-use generate::rng::Rng;
+use jws_cli::encoding::{base64url, hex, id};
 
 /// Generated tables of each test that runs commands over them.
 const TABLES: usize = 150;
@@ -67,7 +67,7 @@ fn without_places(text: &str) -> String {
 #[test]
 fn built_shown_and_checked() {
     let folder = Folder::new("round");
-    let good = generate::tables(61).filter(|table| reference::table::parse(table).is_ok());
+    let good = case_generator::tables(61).filter(|table| reference::table::parse(table).is_ok());
     let mut keys_seen = 0;
     for (case, table) in good.take(TABLES).enumerate() {
         let keys = reference::table::parse(&table).unwrap();
@@ -112,9 +112,9 @@ fn generated_tables_checked() {
     let (mut good, mut bad) = (0, 0);
     for case in 0..3 * TABLES as u64 {
         let mut rng = Rng::of_case(63, case);
-        let mut table = generate::table::valid(&mut rng);
+        let mut table = case_generator::table::valid(&mut rng);
         if case % 4 != 0 {
-            generate::table::damage(&mut rng, &mut table);
+            case_generator::table::damage(&mut rng, &mut table);
         }
         *(if checked(&folder, &table) { &mut good } else { &mut bad }) += 1;
     }
@@ -124,13 +124,13 @@ fn generated_tables_checked() {
 
 /// A table of two keys, ids `a` and `b`.
 fn two_keys() -> Vec<u8> {
-    let key = |id: u8| commands::table::Key {
+    let key = |id: u8| jws_cli::table::Key {
         id: vec![id],
         secret: vec![id; 32],
         algorithms: 1,
         formats: 1,
     };
-    commands::table::lay_out(&[key(b'a'), key(b'b')])
+    jws_cli::table::lay_out(&[key(b'a'), key(b'b')])
 }
 
 #[test]

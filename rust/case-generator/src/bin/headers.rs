@@ -15,7 +15,7 @@ fn main() -> io::Result<()> {
         std::process::exit(2);
     };
     let mut out = BufWriter::new(io::stdout().lock());
-    for header in generate::headers(seed).take(count as usize) {
+    for header in case_generator::headers(seed).take(count as usize) {
         writeln!(out, "{} {}", hex_or_dash(&header), answer(&header))?;
     }
     out.flush()

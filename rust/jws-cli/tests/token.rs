@@ -2,9 +2,9 @@
 
 mod common;
 
-use commands::encoding::base64url;
-use commands::table::{lay_out, Key};
 use common::{published, Folder, Ran, TOKEN};
+use jws_cli::encoding::base64url;
+use jws_cli::table::{lay_out, Key};
 
 /// Generated calls of each test that runs commands over them.
 const CALLS: usize = 200;
@@ -287,7 +287,7 @@ fn number(ran: &Ran) -> u8 {
 fn generated_calls() {
     let folder = Folder::new("calls");
     let mut seen = [0; 17];
-    for case in generate::verify_cases(71).take(CALLS) {
+    for case in case_generator::verify_cases(71).take(CALLS) {
         let (mut header, mut payload) = ([0; 1_024], vec![0; case.payload_len]);
         let (answer, _) = reference::token::verify(&case.token, &case.table, &mut header, &mut payload);
         folder.write("table.bin", &case.table);
@@ -301,7 +301,7 @@ fn generated_calls() {
         assert_eq!(number(&ran), answer, "{case:?}");
         seen[usize::from(answer)] += 1;
     }
-    for case in generate::sign_cases(72).take(CALLS) {
+    for case in case_generator::sign_cases(72).take(CALLS) {
         let mut token = vec![0; case.token_len];
         let (answer, length) = reference::token::sign(&case.header, &case.payload, &case.table, &mut token);
         folder.write("table.bin", &case.table);
@@ -311,7 +311,7 @@ fn generated_calls() {
         assert_eq!(ran.out, token[..length]);
         seen[usize::from(answer)] += 1;
     }
-    for header in generate::headers(73).take(CALLS) {
+    for header in case_generator::headers(73).take(CALLS) {
         let ran = folder.run_on(TOKEN, &["members", "-"], &header);
         let read = reference::json::read(&header);
         assert_eq!(number(&ran), read.as_ref().err().copied().unwrap_or(0));

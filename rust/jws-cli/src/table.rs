@@ -408,7 +408,7 @@ mod tests {
     #[test]
     fn generated_tables_as_the_library_and_the_reference_have_them() {
         let (mut good, mut bad) = (0, 0);
-        for table in generate::tables(52).take(20_000) {
+        for table in case_generator::tables(52).take(20_000) {
             let expected = reference::table::parse(&table);
             match judge(&table) {
                 Verdict::Good(keys) => {

@@ -148,7 +148,7 @@ mod tests {
     #[test]
     fn base64url_as_the_reference_has_it() {
         let (mut good, mut bad) = (0, 0);
-        for text in generate::base64url_texts(51).take(20_000) {
+        for text in case_generator::base64url_texts(51).take(20_000) {
             match (from_base64url(&text), reference::base64url::decode(&text)) {
                 (Ok(bytes), Ok(expected)) => {
                     assert_eq!(bytes, expected);

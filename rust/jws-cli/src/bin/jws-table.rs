@@ -5,5 +5,5 @@
 use std::process::ExitCode;
 
 fn main() -> ExitCode {
-    commands::answer::finish(commands::table_command::run(std::env::args_os().skip(1)))
+    jws_cli::answer::finish(jws_cli::table_command::run(std::env::args_os().skip(1)))
 }

@@ -15,7 +15,7 @@ fn tally(answers: impl Iterator<Item = u8>) -> [usize; 17] {
 
 #[test]
 fn every_answer_of_verifying() {
-    let answer = |case: generate::VerifyCase| {
+    let answer = |case: case_generator::VerifyCase| {
         let mut header = vec![0xAA; case.header_len];
         let mut payload = vec![0xBB; case.payload_len];
         let (answer, record) = verify(&case.token, &case.table, &mut header, &mut payload);
@@ -23,7 +23,7 @@ fn every_answer_of_verifying() {
         assert!(payload[record.payload_length..].iter().all(|&byte| byte == 0));
         answer
     };
-    let tally = tally(generate::verify_cases(SEED).take(20_000).map(answer));
+    let tally = tally(case_generator::verify_cases(SEED).take(20_000).map(answer));
     println!("verify: {tally:?}");
     for (number, &count) in tally.iter().enumerate().take(16) {
         assert!(count >= 50, "answer {number}: {count} times");
@@ -33,13 +33,13 @@ fn every_answer_of_verifying() {
 
 #[test]
 fn every_answer_of_signing() {
-    let answer = |case: generate::SignCase| {
+    let answer = |case: case_generator::SignCase| {
         let mut token = vec![0xCC; case.token_len];
         let (answer, length) = sign(&case.header, &case.payload, &case.table, &mut token);
         assert!(token[length..].iter().all(|&byte| byte == 0));
         answer
     };
-    let tally = tally(generate::sign_cases(SEED).take(20_000).map(answer));
+    let tally = tally(case_generator::sign_cases(SEED).take(20_000).map(answer));
     println!("sign: {tally:?}");
     for (number, &count) in tally.iter().enumerate() {
         let possible = ![3, 4, 15, 16].contains(&number);
@@ -51,14 +51,14 @@ fn every_answer_of_signing() {
 #[test]
 fn every_answer_and_kind_of_the_member_reader() {
     let mut kinds = [0; 8];
-    let answer = |case: generate::MemberCase| match member(&case.header, case.k) {
+    let answer = |case: case_generator::MemberCase| match member(&case.header, case.k) {
         Ok(member) => {
             kinds[member.words()[0] as usize] += 1;
             0
         }
         Err(answer) => answer,
     };
-    let tally = tally(generate::member_cases(SEED).take(20_000).map(answer));
+    let tally = tally(case_generator::member_cases(SEED).take(20_000).map(answer));
     println!("member: {tally:?}, kinds: {kinds:?}");
     for number in [0, 5, 7, 8, 16] {
         assert!(tally[number] >= 200, "answer {number}: {} times", tally[number]);
@@ -72,7 +72,7 @@ fn every_answer_and_kind_of_the_member_reader() {
 fn headers_of_all_lengths_around_the_limit() {
     let mut lengths = [0; 1_100];
     let mut most_members = 0;
-    for header in generate::headers(SEED).take(20_000) {
+    for header in case_generator::headers(SEED).take(20_000) {
         lengths[header.len().min(1_099)] += 1;
         most_members = most_members.max(read(&header).map_or(0, |members| members.len()));
     }
@@ -89,7 +89,7 @@ fn tables_good_and_bad() {
     let (mut good, mut bad) = (0, 0);
     let mut counts = [0; 33];
     let mut lengths = std::collections::BTreeMap::<usize, usize>::new();
-    for bytes in generate::tables(SEED).take(20_000) {
+    for bytes in case_generator::tables(SEED).take(20_000) {
         *lengths.entry(bytes.len()).or_default() += 1;
         match table::parse(&bytes) {
             Ok(keys) => {
@@ -112,7 +112,7 @@ fn tables_good_and_bad() {
 #[test]
 fn valid_tables_are_valid() {
     for case in 0..5_000 {
-        let bytes = generate::table::valid(&mut generate::rng::Rng::of_case(SEED, case));
+        let bytes = case_generator::table::valid(&mut case_generator::rng::Rng::of_case(SEED, case));
         assert!(table::parse(&bytes).is_ok(), "case {case}");
     }
 }
@@ -120,14 +120,17 @@ fn valid_tables_are_valid() {
 #[test]
 fn texts_good_and_bad() {
     let strict = |text: &Vec<u8>| base64url::decode(text).is_ok();
-    let good = generate::base64url_texts(SEED).take(20_000).filter(strict).count();
+    let good = case_generator::base64url_texts(SEED)
+        .take(20_000)
+        .filter(strict)
+        .count();
     println!("texts: {good} strict of 20000");
     assert!((8_000..=14_000).contains(&good));
 }
 
 #[test]
 fn tokens_around_the_limit() {
-    let lengths: Vec<usize> = generate::verify_cases(SEED)
+    let lengths: Vec<usize> = case_generator::verify_cases(SEED)
         .take(20_000)
         .map(|case| case.token.len())
         .collect();
@@ -139,8 +142,11 @@ fn tokens_around_the_limit() {
 
 #[test]
 fn a_seed_always_gives_the_same() {
-    let some = |seed| generate::verify_cases(seed).take(50).collect::<Vec<_>>();
+    let some = |seed| case_generator::verify_cases(seed).take(50).collect::<Vec<_>>();
     assert_eq!(some(SEED), some(SEED));
     assert_ne!(some(SEED), some(SEED + 1));
-    assert_eq!(generate::headers(SEED).nth(17), generate::headers(SEED).skip(10).nth(7));
+    assert_eq!(
+        case_generator::headers(SEED).nth(17),
+        case_generator::headers(SEED).skip(10).nth(7)
+    );
 }

@@ -5,5 +5,5 @@
 use std::process::ExitCode;
 
 fn main() -> ExitCode {
-    commands::answer::finish(commands::token_command::run(std::env::args_os().skip(1)))
+    jws_cli::answer::finish(jws_cli::token_command::run(std::env::args_os().skip(1)))
 }
