@@ -1,14 +1,22 @@
 /*
  * Compact JSON Web Signatures (RFC 7515) with HMAC-SHA-256: verify a token, sign one, and read a header's members.
  *
- * Link target/staticlib/libjws_ffi.a, which `rt staticlib jws_ffi` writes, and the C library (memset and memcpy are called).
- * There is no heap, no global state and no error but the answer, so calls may run on any threads at once.
+ * Link the archive (`-ljws` where it was installed by `make install`, else target/staticlib/libjws_ffi.a, which `make` writes) and the C
+ * library, of which memset and memcpy are called. There is no heap, no global state and no error but the answer, so calls may run on any
+ * threads at once.
  *
  * Of every call:
- * - a pointer comes with its length in bytes; where the length is 0, the pointer may be null and is not followed;
+ * - a pointer comes with its length; where the length is 0, the pointer may be null and is not followed;
+ * - a length times the size of what it counts is below 2^63, as in any object of C;
  * - what is lent for writing (the buffers, `record`, `length`, `member`) overlaps nothing else that is lent to the same call;
  * - `record`, `length` and `member` are never null;
- * - the result is an answer: 0, or the number of the first rule that refuses, in the order said at each function.
+ * - an answer is 0, or the number of the first rule that refuses, in the order said at each function. Any number but 0 is a refusal, also
+ *   one that isn't listed below: later versions add numbers.
+ *
+ * After a refusal every byte and word that was lent for writing is 0. That is all that is cleared: what a call leaves in the dead part of
+ * the stack, below the caller, stays there until something else is written over it. After jws_verify, refused or not, and after jws_sign
+ * that may be the MAC of the token, of a forged one too, and the secret, plain and as HMAC's pads. Where others can read that memory,
+ * make the call on a stack of its own and clear that stack afterwards: examples/verify.c shows how.
  */
 #ifndef JWS_H
 #define JWS_H
@@ -19,6 +27,15 @@
 #ifdef __cplusplus
 extern "C" {
 #endif
+
+/*
+ * The number of this boundary: it goes up with each version in which a function takes other arguments or a record has other words.
+ * A program whose header file and archive come by different ways compares it with jws_boundary(), the archive's number, at its start,
+ * and makes no other call if they differ.
+ */
+#define JWS_BOUNDARY 1
+
+uint32_t jws_boundary(void);
 
 /* Answers. */
 enum {
@@ -79,7 +96,8 @@ enum {
 /* Limits, in bytes. */
 enum {
     JWS_TOKEN_MAX = 16384,
-    JWS_HEADER_MAX = 1024
+    JWS_HEADER_MAX = 1024,
+    JWS_PAYLOAD_MAX = 12288 /* 3/4 of JWS_TOKEN_MAX */
 };
 
 /*
@@ -88,7 +106,7 @@ enum {
  * token:   the token's bytes, header '.' payload '.' signature.
  * table:   the key table.
  * header:  a buffer for the decoded header; JWS_HEADER_MAX bytes always suffice.
- * payload: a buffer for the payload; 3/4 of the token's length always suffices.
+ * payload: a buffer for the payload; 3/4 of the token's length, and so JWS_PAYLOAD_MAX, always suffices.
  * record:  nine words, JWS_RECORD_HEADER_LENGTH to JWS_RECORD_CTY_LENGTH.
  *
  * Answers JWS_DONE, or the first of 1 to 15 in this order. After JWS_DONE each buffer holds its part of the token and then zeros.
@@ -96,6 +114,12 @@ enum {
  */
 uint8_t jws_verify(const uint8_t *token, size_t token_len, const uint8_t *table, size_t table_len, uint8_t *header,
                    size_t header_len, uint8_t *payload, size_t payload_len, uint64_t record[9]);
+
+/*
+ * The payload's length, by a record that jws_verify wrote and the length of the payload buffer that it filled: the payload is that many
+ * of the buffer's first bytes. 0 if the record asks for more than the buffer has, and of the record of a refusal.
+ */
+uint64_t jws_payload(const uint64_t record[9], size_t payload_len);
 
 /*
  * Signs a header and a payload by a key of the table.

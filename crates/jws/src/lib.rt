@@ -3,7 +3,7 @@ mod judging; // judging.rt: the rules of verifying, phase by phase
 
 ghost use mathlib.Core.Path.{_≡_};
 ghost use Rattle.jws_rules.specs.Calls.{verifyCall};
-ghost use Rattle.jws_rules.specs.Outcomes.{given, payload};
+ghost use Rattle.jws_rules.specs.Outcomes.{given, partLength, payload};
 ghost use Rattle.jws_rules.specs.Tests.{verified};
 pub use jws_rules::Record;
 pub use jws_rules::Verified;
@@ -22,13 +22,21 @@ pub fn verify(token: &[u8], table: &[u8], header: &mut [u8], payload: &mut [u8])
 }
 
 // The payload as a part of the buffer that verifying filled; an empty part if the record's length doesn't fit.
-// Rules out the header's length in its place, and a payload that fills the buffer refused.
+// Rules out the header's length in its place, and a part that begins at another byte than the buffer's first.
 pub fn payload(details: Record, buffer: &[u8]) -> &[u8]
     ensures { λ r. ⌜ now r ≡ payload details (now (buffer .entry)) ⌝ }
 {
-    let n = details.payload_length;
-    if n <= buffer.len() {
-        return &buffer[0..n];
+    let n = part_length(details.payload_length, buffer.len());
+    &buffer[0..n]
+}
+
+// How long that part is, by the record's length and the buffer's.
+// Rules out a payload that fills the buffer refused, and the buffer's length for a payload that doesn't fit.
+pub fn part_length(asked: usize, room: usize) -> usize
+    ensures { λ r. ⌜ r ≡ partLength asked room ⌝ }
+{
+    if asked <= room {
+        return asked;
     }
-    &buffer[0..0]
+    0
 }

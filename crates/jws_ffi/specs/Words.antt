@@ -1,13 +1,14 @@
--- The answers as words: a member's five, a record's nine, and a token's length.
+-- The answers as words: a member's five, a record's nine, a token's length and a payload's; and the boundary's number.
 use mathlib.Core.Bool.{cond}
 use mathlib.Core.List.{List, [], _∷_}
 use mathlib.Core.Option.{Option, none, some}
 use Prim.Native.Nat.{ℕ}
+use lib.ListN.{getD}
 use Rattle.json_grammar_rules.specs.Places.{MemberPlaces}
 use Rattle.json_rules.specs.declared.Member.{Member}
 use Rattle.json_rules.specs.Answers.{valuesOf, kindNumber}
 use Rattle.jws_rules.specs.declared.Record.{Record}
-use Rattle.jws_rules.specs.Outcomes.{VerifyOutcome, SignOutcome}
+use Rattle.jws_rules.specs.Outcomes.{VerifyOutcome, SignOutcome, partLength}
 
 -- the kind's number, the name's start and end, the value's start and end; zeros where no member is shown
 unfoldable pub foundWords : Option MemberPlaces → List ℕ
@@ -55,3 +56,11 @@ signGives n size token = record { number = n; size = size; token = token }
 
 abbrev pub signWords : SignOutcome → SignWords
 signWords s = signGives (s .gives .answer) (s .gives .length) (s .token)
+
+-- THE PAYLOAD: the length of its part of a buffer of so many bytes, by the record's words
+abbrev pub payloadWord : List ℕ → ℕ → ℕ
+payloadWord words room = partLength (getD words 1 0) room
+
+-- THE BOUNDARY: the number of this set of functions, words and answers; it goes up when a function's arguments change
+abbrev pub boundary : ℕ
+boundary = 1

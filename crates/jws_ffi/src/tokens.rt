@@ -1,10 +1,10 @@
-// Verifying and signing: their answers as numbers, a record as nine words, and a token's length as a word.
+// Verifying, the payload and signing: answers as numbers, a record as nine words, a payload's and a token's length as a word.
 use jws::Record;
 ghost use mathlib.Core.Path.{_≡_};
 ghost use mathlib.Core.Bool.{cond};
 ghost use Rattle.jws_rules.specs.Calls.{verifyCall, signCall};
 ghost use Rattle.jws_rules.specs.Tests.{verified, signed};
-ghost use Rattle.jws_ffi.specs.Words.{recordWords, verifyGives, verifyWords, signGives, signWords};
+ghost use Rattle.jws_ffi.specs.Words.{recordWords, verifyGives, verifyWords, payloadWord, signGives, signWords};
 
 fn word_of(b: bool) -> u64
     ensures { λ r. ⌜ r ≡ cond b 1 0 ⌝ }
@@ -46,6 +46,15 @@ pub extern "C" fn jws_verify(
     let details = words_of(v.details);
     *words = details;
     v.answer
+}
+
+// How many bytes of a payload buffer of so many are the payload, by a record's words; 0 if they don't fit.
+// Rules out another word's length, and the buffer's length for a payload that doesn't fit.
+#[no_mangle]
+pub extern "C" fn jws_payload(words: &[u64; 9], room: usize) -> u64
+    ensures { λ r. ⌜ r ≡ payloadWord (now (words .entry)) room ⌝ }
+{
+    jws::part_length(words[1] as usize, room) as u64
 }
 
 // Signs a header and a payload: 0, the token and its length, or the refusal's number with all that is lent for writing zeroed.

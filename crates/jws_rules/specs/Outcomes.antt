@@ -37,9 +37,13 @@ refused n q = given (record { answer = n; details = zeroRecord }) (replicate (q 
 abbrev pub accepted : List ℕ → List ℕ → Record → VerifyCall → VerifyOutcome
 accepted h p r q = given (record { answer = 0; details = r }) (filled (q .headerRoom) h) (filled (q .payloadRoom) p)
 
--- "takes that record and the second buffer and lends the payload as a part of it [..]: for a record that asks for more than the buffer has, the part is empty"
-unfoldable pub payload : Record → List ℕ → List ℕ
-payload r buffer = cond (leb (r .«payload_length») (length buffer)) (take (r .«payload_length») buffer) []
+-- "takes that record and the second buffer and lends the payload as a part of it [..]: for a record that asks for more than the buffer has, the part is empty":
+-- how long the part is, by what is asked for and what the buffer has; and the part
+unfoldable pub partLength : ℕ → ℕ → ℕ
+partLength n room = cond (leb n room) n 0
+
+abbrev pub payload : Record → List ℕ → List ℕ
+payload r buffer = take (partLength (r .«payload_length») (length buffer)) buffer
 
 -- the header and the payload in what is given
 abbrev pub headerIn : VerifyOutcome → List ℕ

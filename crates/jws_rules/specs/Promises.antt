@@ -2,13 +2,14 @@
 -- `jws_signing`; their contracts say that they give exactly these. q: what a call is lent (Calls).
 use mathlib.Core.Path.{_≡_, refl, sym, ap, _∙_}
 use mathlib.Core.Logic.{_⊎_, _↔_, ⊎-elim}
-use mathlib.Core.Bool.{true}
+use mathlib.Core.Bool.{Bool, true, false, cond}
 use mathlib.Core.List.{List, [], _∷_}
 use Prim.Native.Nat.{ℕ, _-_, _≤_, _<_}
 use native.Mathlib.Omega.{arith}
 use lib.ListN.{length, take, replicate, length-append}
+use lib.Dec.{leb}
 use lib.Seq.{take-append-seam}
-use borrow.Author.Tests.{le-leb, lt-leb, le-ltb}
+use borrow.Author.Tests.{le-leb, lt-leb, leb-true, le-ltb}
 use Rattle.common.specs.Bytes.{Bytes}
 use Rattle.common.specs.Buffer.{filled}
 use Rattle.common.specs.First.{NoneOf, condition, earlier, numbers, among}
@@ -24,19 +25,27 @@ use Rattle.jose_rules.specs.Promises.{distinct}
 use Rattle.jws_rules.specs.declared.Record.{Record}
 use Rattle.jws_rules.specs.Calls.{VerifyCall, verifyOf, SignCall, signOf}
 use Rattle.jws_rules.specs.Token.{tokenOf, finishedLength, headerOf, payloadOf, secretOf}
-use Rattle.jws_rules.specs.Outcomes.{VerifyOutcome, SignOutcome, recordOf, zeroRecord, accepted, payload, signedAs, headerIn, payloadIn, tokenIn}
+use Rattle.jws_rules.specs.Outcomes.{VerifyOutcome, SignOutcome, recordOf, zeroRecord, accepted, partLength, payload, signedAs, headerIn, payloadIn, tokenIn}
 use Rattle.jws_rules.specs.Rules.{verifying, signing, Accepted}
 use Rattle.jws_rules.specs.Tests.{tokenChoice, tokenRecord, verified, verifyAnswer, signChoice, madeBy, made, signed, signAnswer}
 use Rattle.jws_rules.specs.RuleLaws.{verify-agree, verify-number, verify-is, verify-bad, sign-agree, sign-number, sign-good, sign-is, sign-bad}
 use Rattle.jws_rules.specs.AcceptedLaws.{accepted-if, accepted-only, sign-header, signed-accepted, accepted-signed}
 
 -- The payload call hands back a part of the buffer, as long as the record says; "for a record that asks for more than the buffer has, the part is empty".
+pub part-within : (n room : ℕ) → partLength n room ≤ room
+unfolding partLength
+part-within n room = go (leb n room) refl
+  where
+    go : (b : Bool) → leb n room ≡ b → cond b n 0 ≤ room
+    go true e = leb-true n room e
+    go false e = omega arith
+
 pub payload-part : (r : Record) (b : List ℕ) → r .«payload_length» ≤ length b → payload r b ≡ take (r .«payload_length») b
-unfolding payload
+unfolding partLength
 payload-part r b k = rw (le-leb (r .«payload_length») (length b) k)
 
 pub payload-short : (r : Record) (b : List ℕ) → length b < r .«payload_length» → payload r b ≡ []
-unfolding payload
+unfolding partLength
 payload-short r b k = rw (lt-leb (r .«payload_length») (length b) k)
 
 -- DEMAND 1
