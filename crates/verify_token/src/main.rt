@@ -37,7 +37,14 @@ fn print(v: Verified) {
     say(b"\n");
 }
 
-// Reads a file's first bytes, as many as there is room for, and answers how many. A file that can't be opened counts as empty.
+// Whether the file is at its end: there a further read gives no byte. One that failed fails again, or goes on where it stopped.
+fn at_end(fd: i32) -> bool {
+    let mut next = [0u8; 1];
+    libc::read(fd, &mut next) == 0
+}
+
+// Reads a file's first bytes, as many as there is room for, and answers how many. A file that can't be opened, or that can't be read to
+// its end, counts as empty: no part of a file is judged as if it were the whole.
 fn load(path: &[u8], room: &mut [u8]) -> usize
     ensures { λ r. ⌜ Counts r (now (room .exit)) ⌝ }
 {
@@ -46,8 +53,12 @@ fn load(path: &[u8], room: &mut [u8]) -> usize
         return 0;
     }
     let n = io::read_full(fd, room);
+    let whole = n == room.len() || at_end(fd);
     libc::close(fd);
-    n
+    if whole {
+        return n;
+    }
+    0
 }
 
 fn main() {

@@ -10,6 +10,11 @@ const HERE: &str = env!("CARGO_MANIFEST_DIR");
 
 /// The program's standard output in a folder that has these files.
 fn output(folder: &str, table: Option<&[u8]>, token: Option<&[u8]>) -> String {
+    output_with(folder, table, token, &[])
+}
+
+/// The same with these variables in its environment.
+fn output_with(folder: &str, table: Option<&[u8]>, token: Option<&[u8]>, variables: &[(&str, &str)]) -> String {
     let program = Path::new(HERE).join("../../target/bin/verify_token");
     assert!(program.exists(), "{} isn't there: run `rt ci` first", program.display());
     let folder = PathBuf::from(env!("CARGO_TARGET_TMPDIR"))
@@ -24,6 +29,7 @@ fn output(folder: &str, table: Option<&[u8]>, token: Option<&[u8]>) -> String {
     }
     let output = Command::new(program.canonicalize().unwrap())
         .current_dir(folder)
+        .envs(variables.iter().copied())
         .output()
         .unwrap();
     assert_eq!(output.stderr, b"");
@@ -73,4 +79,35 @@ fn longest_files() {
         table[4..8].copy_from_slice(&(length as u32).to_be_bytes());
         assert_eq!(output("table", Some(&table), Some(&longest)), expected);
     }
+}
+
+/// A read that fails after some bytes: what was read isn't judged, and the file counts as one that can't be opened.
+#[test]
+fn reads_that_fail() {
+    let shim = Path::new(env!("CARGO_TARGET_TMPDIR")).join("failing_read.so");
+    let built = Command::new("cc")
+        .args(["-O2", "-Wall", "-Wextra", "-Werror", "-shared", "-fPIC", "-o"])
+        .arg(&shim)
+        .arg(format!("{HERE}/tests/c/failing_read.c"))
+        .status()
+        .unwrap();
+    assert!(built.success());
+    let (table, token) = (published("table.bin"), published("token.txt"));
+    let (longer_table, longer_token) = ([&table[..], b"?"].concat(), [&token[..], b"?"].concat());
+    let shim = shim.to_str().unwrap();
+    let run = |table: &[u8], token: &[u8], file: &str, after: usize| {
+        let after = after.to_string();
+        let variables = [("LD_PRELOAD", shim), ("FAILS_IN", file), ("FAILS_AFTER", &after)];
+        output_with("failing", Some(table), Some(token), &variables)
+    };
+    // The bytes before the fault are a good token and a good table; judged alone they would be accepted.
+    assert_eq!(run(&table, &longer_token, "token.txt", 179), "refused 3\n");
+    assert_eq!(run(&longer_table, &token, "table.bin", 96), "refused 2\n");
+    assert_eq!(run(&table, &token, "token.txt", 0), "refused 3\n");
+    // A file that ends before its reads would fail is read.
+    assert_eq!(
+        run(&table, &token, "token.txt", 180),
+        "accepted key=0 fmt=1 payload=70\n"
+    );
+    assert_eq!(run(&table, &longer_token, "token.txt", 181), "refused 4\n");
 }
