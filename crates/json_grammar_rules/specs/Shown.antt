@@ -5,16 +5,29 @@ use mathlib.Core.Option.{Option, none, some}
 use Prim.Native.Nat.{ℕ, zero, suc}
 use lib.Seq.{slice}
 use Rattle.json_grammar_rules.specs.Value.{Value, Members, stringV, numberV, trueV, falseV, nullV, arrayV, objectV, mnil, mcons}
-use Rattle.json_grammar_rules.specs.Grammar.{Chars, ValueTree, yieldChars, yieldValue, codesOf, readingValue}
+use Rattle.json_grammar_rules.specs.Grammar.{none as no-space, Chars, ValueTree, falseT, nullT, trueT, objectT, arrayT, numberT, stringT, object0, objectOf, array0, arrayOf}
+use Rattle.json_grammar_rules.specs.Grammar.{yieldChars, yieldValue, codesOf, readingValue}
 use Rattle.json_grammar_rules.specs.Places.{kindOf, MemberPlaces}
 
 -- the bytes x are characters with the code points cs
 abbrev pub Text : List ℕ → List ℕ → Type 0
 Text x cs = (t : Chars) × (yieldChars t [] ≡ x) × (codesOf t ≡ cs)
 
--- the bytes x are a value that reads as v
+-- no white space around a value: only an array's or an object's own tokens could have any, before the first and after the last
+abbrev pub Bare : ValueTree → Type 0
+Bare falseT = Unit {0}
+Bare nullT = Unit {0}
+Bare trueT = Unit {0}
+Bare (objectT (object0 b e)) = (b .before ≡ no-space) × (e .after ≡ no-space)
+Bare (objectT (objectOf b m ms e)) = (b .before ≡ no-space) × (e .after ≡ no-space)
+Bare (arrayT (array0 b e)) = (b .before ≡ no-space) × (e .after ≡ no-space)
+Bare (arrayT (arrayOf b v vs e)) = (b .before ≡ no-space) × (e .after ≡ no-space)
+Bare (numberT n) = Unit {0}
+Bare (stringT cs) = Unit {0}
+
+-- the bytes x are a value that reads as v, without white space around it
 abbrev pub Whole : List ℕ → Value → Type 0
-Whole x v = (t : ValueTree) × (yieldValue t [] ≡ x) × (readingValue t ≡ v)
+Whole x v = (t : ValueTree) × (yieldValue t [] ≡ x) × (readingValue t ≡ v) × Bare t
 
 -- a string is taken between its quotation marks, every other value whole
 abbrev pub Resolves : List ℕ → Value → Type 0

@@ -18,7 +18,7 @@ use Rattle.json_grammar_rules.specs.Grammar.{membersOf}
 use Rattle.json_grammar_rules.specs.declared.Kind.{Kind}
 use Rattle.json_grammar_rules.specs.Places.{kindOf, pos, margin, placed, member}
 use Rattle.json_grammar_rules.specs.Reader.{got, ws, readChars, readValue, read}
-use Rattle.json_grammar_rules.specs.Shown.{Text, Whole, Resolves, Shown, Shows}
+use Rattle.json_grammar_rules.specs.Shown.{Text, Bare, Whole, Resolves, Shown, Shows}
 use Rattle.json_grammar_rules.specs.Written.{Writes, followed}
 use Rattle.json_grammar_rules.specs.Written
 use Rattle.json_grammar_rules.specs.Readings.{plain-value, plain-of}
@@ -56,9 +56,9 @@ pub text-stands : (s : List ℕ) (cs : Chars) (t : List ℕ) (i j : ℕ) → End
     → Text (slice i j s) (codesOf cs)
 text-stands s cs t i j e p q = let w = followed (Written.chars cs) t in (cs, sym (stands s (yieldChars cs []) t i j (rw w at e) (rw w at p) q), refl)
 
-pub whole-stands : (s : List ℕ) (v : ValueTree) (t : List ℕ) (i j : ℕ) → Ends s (yieldValue v t) → i ≡ pos s (yieldValue v t) → j ≡ pos s t
+pub whole-stands : (s : List ℕ) (v : ValueTree) (t : List ℕ) (i j : ℕ) → Bare v → Ends s (yieldValue v t) → i ≡ pos s (yieldValue v t) → j ≡ pos s t
     → Whole (slice i j s) (readingValue v)
-whole-stands s v t i j e p q = let w = followed (Written.value v) t in (v, sym (stands s (yieldValue v []) t i j (rw w at e) (rw w at p) q), refl)
+whole-stands s v t i j b e p q = let w = followed (Written.value v) t in (v, sym (stands s (yieldValue v []) t i j (rw w at e) (rw w at p) q), refl, b)
 
 -- ARRAYS AND OBJECTS WITHOUT THE WHITE SPACE AROUND THEM
 
@@ -86,6 +86,16 @@ unfolding fromObject pastObject trimObject yieldObject yieldToken yieldFrom yiel
 object-trimmed (object0 b e) r = (refl, refl)
 object-trimmed (objectOf b m ms e) r = (refl, refl)
 
+array-bare : (a : ArrayTree) → Bare (arrayT (trimArray a))
+unfolding trimArray
+array-bare (array0 b e) = (refl, refl)
+array-bare (arrayOf b v vs e) = (refl, refl)
+
+object-bare : (o : ObjectTree) → Bare (objectT (trimObject o))
+unfolding trimObject
+object-bare (object0 b e) = (refl, refl)
+object-bare (objectOf b m ms e) = (refl, refl)
+
 array-ends : {s : List ℕ} (a : ArrayTree) (r : List ℕ) → Ends s (yieldArray a r) → Ends s (fromArray a r)
 unfolding fromArray yieldArray yieldToken yieldFrom
 array-ends (array0 b e) r h = ends-with h (Written.white (b .before))
@@ -102,8 +112,8 @@ object-ends (objectOf b m ms e) r h = ends-with h (Written.white (b .before))
 abbrev ItemShown : List ℕ → LItem → Value → Type 0
 ItemShown s (item a b w) v = (kindOf (plain w) ≡ kindOf v) × Resolves (slice (pos s a + margin (kindOf (plain w))) (pos s b - margin (kindOf (plain w))) s) v
 
-whole-shown : (s : List ℕ) (v : ValueTree) (a t : List ℕ) → Ends s a → a ≡ yieldValue v t → Whole (slice (pos s a + 0) (pos s t - 0) s) (readingValue v)
-whole-shown s v a t e p = whole-stands s v t (pos s a + 0) (pos s t - 0) (rw p at e) (rw p (omega arith)) (omega arith)
+whole-shown : (s : List ℕ) (v : ValueTree) (a t : List ℕ) → Bare v → Ends s a → a ≡ yieldValue v t → Whole (slice (pos s a + 0) (pos s t - 0) s) (readingValue v)
+whole-shown s v a t b e p = whole-stands s v t (pos s a + 0) (pos s t - 0) b (rw p at e) (rw p (omega arith)) (omega arith)
 
 string-shown : (s : List ℕ) (cs : Chars) (r : List ℕ) → Ends s (yieldString cs r) → Text (slice (pos s (yieldString cs r) + 1) (pos s r - 1) s) (codesOf cs)
 unfolding yieldString pos
@@ -114,16 +124,16 @@ string-shown s cs r e =
 
 value-shown : (s : List ℕ) (v : ValueTree) (r : List ℕ) → Ends s (yieldValue v r) → ItemShown s (locatedValue v r) (readingValue v)
 unfolding locatedValue readingValue yieldValue yieldString plain kindOf margin
-value-shown s falseT r e = (refl, whole-shown s falseT _ r e refl)
-value-shown s nullT r e = (refl, whole-shown s nullT _ r e refl)
-value-shown s trueT r e = (refl, whole-shown s trueT _ r e refl)
-value-shown s (numberT n) r e = (refl, whole-shown s (numberT n) _ r e refl)
+value-shown s falseT r e = (refl, whole-shown s falseT _ r tt e refl)
+value-shown s nullT r e = (refl, whole-shown s nullT _ r tt e refl)
+value-shown s trueT r e = (refl, whole-shown s trueT _ r tt e refl)
+value-shown s (numberT n) r e = (refl, whole-shown s (numberT n) _ r tt e refl)
 value-shown s (arrayT a) r e =
     let t = array-trimmed a r in
-    (refl, rw (ap arrayV (t .1)) at (whole-shown s (arrayT (trimArray a)) (fromArray a r) (pastArray a r) (array-ends a r e) (t .0)))
+    (refl, rw (ap arrayV (t .1)) at (whole-shown s (arrayT (trimArray a)) (fromArray a r) (pastArray a r) (array-bare a) (array-ends a r e) (t .0)))
 value-shown s (objectT o) r e =
     let t = object-trimmed o r in
-    (refl, rw (ap objectV (t .1)) at (whole-shown s (objectT (trimObject o)) (fromObject o r) (pastObject o r) (object-ends o r e) (t .0)))
+    (refl, rw (ap objectV (t .1)) at (whole-shown s (objectT (trimObject o)) (fromObject o r) (pastObject o r) (object-bare o) (object-ends o r e) (t .0)))
 value-shown s (stringT cs) r e = (refl, string-shown s cs r e)
 
 -- a member before others
@@ -205,7 +215,7 @@ resolves-whole : (x : List ℕ) (v : Value) → Resolves x v → Whole (quoted (
 unfolding quoted kindOf yieldValue yieldString readingValue
 resolves-whole x (stringV cs) h =
     let w = followed (Written.chars (h .0)) (0x22 ∷ []) in
-    (stringT (h .0), ap (λ (l : List ℕ). 0x22 ∷ l) (w ∙ ap (λ (l : List ℕ). l ++ (0x22 ∷ [])) (h .1)), ap stringV (h .2))
+    (stringT (h .0), ap (λ (l : List ℕ). 0x22 ∷ l) (w ∙ ap (λ (l : List ℕ). l ++ (0x22 ∷ [])) (h .1)), ap stringV (h .2), tt)
 resolves-whole x (numberV cs) h = h
 resolves-whole x trueV h = h
 resolves-whole x falseV h = h

@@ -1,13 +1,14 @@
 -- A text has one reading, and it is read exactly when it is derived within the depth.
 use mathlib.Core.Path.{_≡_, refl, sym, ap, ap₂, _∙_}
-use mathlib.Core.Bool.{Bool, true, false}
+use mathlib.Core.Bool.{Bool, true, false, true≢false}
 use mathlib.Core.Logic.{_↔_}
 use mathlib.Core.List.{List, []}
 use Prim.Native.Nat.{ℕ, _+_}
 use native.Mathlib.Omega.{arith}
 use Rattle.common.specs.First.{Decides, holds, fails}
+use Rattle.json_grammar_rules.specs.Bytes.{isWs}
 use Rattle.json_grammar_rules.specs.Value.{Members, objectV, depth, LMembers, plainMembers}
-use Rattle.json_grammar_rules.specs.Grammar.{Derivation, Derived, bytes, readingOf, depthOf, membersOf}
+use Rattle.json_grammar_rules.specs.Grammar.{none, more, Ws, ObjectTree, object0, objectOf, Derivation, Derived, yieldMany, yieldToken, yieldObject, bytes, readingOf, depthOf, membersOf}
 use Rattle.json_grammar_rules.specs.Places.{member}
 use Rattle.json_grammar_rules.specs.Reader.{Got, bad, got, read}
 use Rattle.json_grammar_rules.specs.ReaderLaws.{no-bad}
@@ -33,6 +34,27 @@ one-depth t u e = ap (λ (ms : Members). depth (objectV ms)) (one-reading t u e)
 
 pub same-member : (t u : Derivation) → bytes t ≡ bytes u → (k : ℕ) → member (bytes t) k (membersOf t) ≡ member (bytes u) k (membersOf u)
 same-member t u e k = ap₂ (λ (s : List ℕ) (ms : LMembers). member s k ms) e (unique t u e)
+
+-- DERIVATIONS ARE NOT UNIQUE: the space in `{ }` can be given to either brace, and both derive the same bytes
+unfoldable space : Ws
+unfolding isWs
+space = more 0x20 refl none
+
+abbrev spaced : Ws → Ws → Derivation
+spaced x y = record { before = none; top = object0 (record { before = none; after = x }) (record { before = y; after = none }); after = none }
+
+-- whether white space follows the first brace
+abbrev anySpace : Ws → Bool
+anySpace none = false
+anySpace (more b h m) = true
+
+abbrev openSpace : ObjectTree → Bool
+openSpace (object0 b e) = anySpace (b .after)
+openSpace (objectOf b m ms e) = anySpace (b .after)
+
+pub derivations-differ : (t : Derivation) × (u : Derivation) × (bytes t ≡ bytes u) × (t ≡ u → ⊥)
+unfolding space bytes yieldObject yieldToken yieldMany
+derivations-differ = (spaced space none, spaced none space, refl, λ e. true≢false (ap (λ (t : Derivation). openSpace (t .top)) e))
 
 -- READ EXACTLY WHEN DERIVED
 

@@ -1,4 +1,6 @@
 -- What a header answers, and what the member reader answers for its member k.
+use mathlib.Core.Path.{_≡_}
+use mathlib.Core.Logic.{_⊎_}
 use mathlib.Core.Bool.{Bool, true, false, not}
 use mathlib.Core.List.{List, [], _∷_, _++_}
 use mathlib.Core.Option.{Option, none, some}
@@ -88,6 +90,14 @@ numberOf (Null n v) = 0
 numberOf (Array n v) = 0
 numberOf (Object n v) = 0
 numberOf (Refused x) = x
+
+-- the member reader's number for member k of h
+abbrev pub memberNumber : List ℕ → ℕ → ℕ
+memberNumber h k = numberOf (memberOf h k)
+
+-- "The member call tells whether a header is read: then it answers 0 for each of its members and 16 for every other k."
+abbrev pub Read : List ℕ → Type 0
+Read h = (k : ℕ) → (memberNumber h k ≡ 0) ⊎ (memberNumber h k ≡ 16)
 
 -- the kind and the two places; a refusal is its number alone
 abbrev pub with-kind : Kind → Place → Place → Option MemberPlaces

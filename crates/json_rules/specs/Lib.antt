@@ -3,4 +3,6 @@ pub mod Rules
 pub mod Answers
 pub mod AnswerLaws
 pub mod Promises
+-- Demand 3.
+pub mod Demand3
 pub mod Rows

@@ -26,8 +26,8 @@ use Rattle.json_grammar_rules.specs.Shown.{Shows}
 use Rattle.json_grammar_rules.specs.ShownLaws.{shown}
 use Rattle.json_rules.specs.declared.Place.{Place}
 use Rattle.json_rules.specs.declared.Member.the-variants.{Refused}
-use Rattle.json_rules.specs.Rules.{longest, deepest, NameTwice, count, NoMember, grammarRules, headerRules, memberRules}
-use Rattle.json_rules.specs.Answers.{membersIn, twiceIn, grammarTests, headerTests, checked, missing, memberTests, place, shownBy, answerFor, unlessRefused, memberOf, numberOf, with-kind, valuesOf}
+use Rattle.json_rules.specs.Rules.{longest, deepest, NameTwice, DerivedOnce, count, NoMember, grammarRules, headerRules, memberRules}
+use Rattle.json_rules.specs.Answers.{membersIn, twiceIn, grammarTests, headerTests, checked, missing, memberTests, place, shownBy, answerFor, unlessRefused, memberOf, numberOf, memberNumber, Read, with-kind, valuesOf}
 
 -- THE TESTS decide them, each where no earlier one holds
 
@@ -156,19 +156,7 @@ module _ (h : List ℕ) where
   within-all (lcons (named f t n v) ms) zero l = let m = placed h (named f t n v) in shown-by (m .kind) (place (m .nameStart) (m .nameEnd)) (place (m .valueStart) (m .valueEnd)) .0
   within-all (lcons (named f t n v) ms) (suc k) l = within-all ms k (omega arith)
 
--- READ EXACTLY WHEN DERIVED
-
--- the member reader's number for member k of h
-abbrev pub memberNumber : List ℕ → ℕ → ℕ
-memberNumber h k = numberOf (memberOf h k)
-
--- "The member call tells whether a header is read: then it answers 0 for each of its members and 16 for every other k."
-abbrev pub Read : List ℕ → Type 0
-Read h = (k : ℕ) → (memberNumber h k ≡ 0) ⊎ (memberNumber h k ≡ 16)
-
--- some derivation of h has depth at most 8 and no name twice in one object
-abbrev pub DerivedOnce : List ℕ → Type 0
-DerivedOnce h = (t : Derivation) × (bytes t ≡ h) × (depthOf t ≤ deepest) × (TwiceNamed (objectV (readingOf t)) → ⊥)
+-- READ EXACTLY WHEN DERIVED (as two lines: Demand3)
 
 -- a refusal of the header is that of every member
 pub refused : (h : List ℕ) (n : ℕ) → checked h ≡ suc n → (k : ℕ) → memberOf h k ≡ Refused (suc n)
@@ -228,9 +216,9 @@ module _ (h : List ℕ) (l : length h ≤ longest) where
     member-found c = ap numberOf member-is ∙ within-all h (membersOf t) k (subst (λ (ms : Members). k < count ms) (sym (plain-of t)) c)
 
   -- for every header within the length
-  pub read-exactly : Read h ↔ DerivedOnce h
+  pub read-within : Read h ↔ DerivedOnce h
   unfolding checked headerTests
-  read-exactly = (
+  read-within = (
     λ f. derived-once h (header-none h .0 (fine (f 0))),
     λ r k. either-number (member h k (membersOf (r .0))) (ap numberOf (member-is (r .0) (r .1) (r .2) (r .3) k) ∙ answer-number (member h k (membersOf (r .0)))),
   )
@@ -246,6 +234,13 @@ module _ (h : List ℕ) (l : length h ≤ longest) where
               let other : suc n ≡ 16 → ⊥ = λ z. true≢false (sym (header-range h) ∙ ap (λ (m : ℕ). among m (0 ∷ 5 ∷ 7 ∷ 8 ∷ [])) (e ∙ z)) in
               absurd (⊎-elim (λ z. omega arith) (λ z. other (sym number ∙ z)) c)
 
+pub read-short : (h : List ℕ) → Read h → length h ≤ longest
+unfolding numberOf
+read-short h r = ltb-false longest (length h) (test-false (decides-lt longest (length h)) (λ l. five (too-long h l 0) (r 0)))
+  where
+    five : memberOf h 0 ≡ Refused 5 → (memberNumber h 0 ≡ 0) ⊎ (memberNumber h 0 ≡ 16) → ⊥
+    five e c = let n = ap numberOf e in ⊎-elim (λ z. omega arith) (λ z. omega arith) c
+
 -- "To a header that isn't read it gives one refusal of 5, 7 and 8, the same for every k"
 pub unread : (h : List ℕ) → (Read h → ⊥) → (n : ℕ) × (among n (5 ∷ 7 ∷ 8 ∷ []) ≡ true) × ((k : ℕ) → memberOf h k ≡ Refused n)
 unread h r = go (checked h) refl
@@ -253,7 +248,7 @@ unread h r = go (checked h) refl
     is-read : checked h ≡ 0 → Read h
     is-read e =
         let n = header-none h .0 e in
-        read-exactly h (ltb-false longest (length h) (test-false (decides-lt longest (length h)) (not-on (headerRules h) n 5))) .1 (derived-once h n)
+        read-within h (ltb-false longest (length h) (test-false (decides-lt longest (length h)) (not-on (headerRules h) n 5))) .1 (derived-once h n)
 
     go : (c : ℕ) → checked h ≡ c → (n : ℕ) × (among n (5 ∷ 7 ∷ 8 ∷ []) ≡ true) × ((k : ℕ) → memberOf h k ≡ Refused n)
     go zero e = absurd (r (is-read e))

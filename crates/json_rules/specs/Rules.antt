@@ -6,7 +6,7 @@ use lib.ListN.{length}
 use Rattle.common.specs.First.{Rule, _on_}
 use Rattle.json_grammar_rules.specs.Twice.{TwiceNamed}
 use Rattle.json_grammar_rules.specs.Value.{Members, mnil, mcons, objectV}
-use Rattle.json_grammar_rules.specs.Grammar.{Derivation, Derived, bytes, readingOf}
+use Rattle.json_grammar_rules.specs.Grammar.{Derivation, Derived, bytes, readingOf, depthOf}
 
 -- Rule 5: "At most 1,024 bytes". Rule 7: "The top object counts as depth 1, each array or object within another adds 1, and 8 is the most."
 abbrev pub longest : ℕ
@@ -20,6 +20,10 @@ deepest = 8
 -- 8: h is derived, and one object has a name twice
 abbrev pub NameTwice : List ℕ → Type 0
 NameTwice h = (t : Derivation) × (bytes t ≡ h) × TwiceNamed (objectV (readingOf t))
+
+-- some derivation of h has depth at most 8 and no name twice in one object
+abbrev pub DerivedOnce : List ℕ → Type 0
+DerivedOnce h = (t : Derivation) × (bytes t ≡ h) × (depthOf t ≤ deepest) × (TwiceNamed (objectV (readingOf t)) → ⊥)
 
 unfoldable pub count : Members → ℕ
 count mnil = 0

@@ -39,10 +39,10 @@ encoded : {x s : List ℕ} → x ≡ encode s → Bytes s → strict x ≡ true
 encoded e b = ap strict e ∙ strict-encode b
 
 -- a token that is made of bytes, and isn't too long, passes the rules before 5, ..
-pub made-passes : (q : VerifyCall) {secret h p : List ℕ} → Wellformed (q .table) → Parts (q .token) secret h p → Bytes h → Bytes p → length (q .token) ≤ tokenMost
+pub made-passes : (q : VerifyCall) {h p m : List ℕ} → Wellformed (q .table) → Parts (q .token) h p m → Bytes h → Bytes p → Bytes m → length (q .token) ≤ tokenMost
     → NoneOf (earlier (verifying q) 5)
-made-passes q {secret} {h} {p} table x hb pb short =
-    before-5 q short table (x .two) (encoded (x .segment1) hb) (encoded (x .segment2) pb) (encoded (x .segment3) (mac-bytes secret h p))
+made-passes q table x hb pb mb short =
+    before-5 q short table (x .two) (encoded (x .segment1) hb) (encoded (x .segment2) pb) (encoded (x .segment3) mb)
 
 -- the header's rules among those of verifying
 abbrev headerRulesOf : VerifyCall → List Rule
@@ -53,7 +53,8 @@ pub accepted-if : (q : VerifyCall) (h p : List ℕ) (r : Record) → Accepted q 
 accepted-if q h p r a =
     let hb = header-bytes (a .header) in
     let pb = a .payload-bytes in
-    let x = parts (a .token) hb pb in
+    let mb = mac-bytes (secretOf (q .table) (r .choice)) h p in
+    let x = parts (a .token) hb pb mb in
     let d = distinct (q .table) (λ n. n (a .table)) in
     let one : headerChoice h (keys (q .table)) ≡ r .choice = sym (header-chooses-one h (termsOf (q .table)) d (r .choice) (a .header)) in
     let chosen : tokenChoice q ≡ r .choice = ap (λ (y : List ℕ). headerChoice y (keys (q .table))) (x .header) ∙ one in
@@ -61,7 +62,7 @@ accepted-if q h p r a =
     verify-good q
     (none-append (earlier (verifying q) 7) (headerRulesOf q ++ signatureRules q)
     (before-7 q
-    (before-6 q (made-passes q (a .table) x hb pb (a .short)) (omega (arith, a .header-short, ap length (x .header))))
+    (before-6 q (made-passes q (a .table) x hb pb mb (a .short)) (omega (arith, a .header-short, ap length (x .header))))
     (omega (arith, a .header-fits, ap length (x .header)))
     (omega (arith, a .payload-fits, ap length (x .payload))))
     (none-append (headerRulesOf q) (signatureRules q)

@@ -32,8 +32,8 @@ use Rattle.jose_rules.specs.HeaderLaws.{jose-agree, header-chooses, header-byte
 use Rattle.jose_rules.specs.Promises.{distinct}
 use Rattle.jws_rules.specs.Calls.{VerifyCall, verifyOf, SignCall, signOf}
 use Rattle.jws_rules.specs.Segments.{period, periods, front, back, _dot_}
-use Rattle.jws_rules.specs.Token.{tokenOf, finishedLength, headerOf, secretOf}
-use Rattle.jws_rules.specs.TokenLaws.{length-token, Parts, parts}
+use Rattle.jws_rules.specs.Token.{macOf, tokenOf, finishedLength, headerOf, secretOf}
+use Rattle.jws_rules.specs.TokenLaws.{length-token, mac-bytes, Parts, parts}
 use Rattle.jws_rules.specs.Outcomes.{VerifyOutcome, recordOf, accepted, signedAs}
 use Rattle.jws_rules.specs.Rules.{verifying, signing, Accepted}
 use Rattle.jws_rules.specs.Tests.{verified, verifyAnswer, signed, signAnswer}
@@ -141,14 +141,14 @@ module _ (n : ℕ) (p : List ℕ) (room : ℕ) (header-short : 15 + n ≤ 1024) 
 
 -- .. and in verifying.
 module _ (n : ℕ) (p : List ℕ) (bytes : Bytes p) (short : finishedLength (header n) p ≤ 16384) (hr pr : ℕ) where
-  its-parts : Parts (token n p) secret (header n) p
-  its-parts = parts refl (header-bytes (chooses n)) bytes
+  its-parts : Parts (token n p) (header n) p (macOf secret (header n) p)
+  its-parts = parts refl (header-bytes (chooses n)) bytes (mac-bytes secret (header n) p)
 
   its-header : length (headerOf (token n p)) ≡ 15 + n
   its-header = ap length (its-parts .header) ∙ length-header n
 
   verifying-passes : NoneOf (earlier (verifying (taking (token n p) hr pr)) 5)
-  verifying-passes = made-passes (taking (token n p) hr pr) table-good its-parts (header-bytes (chooses n)) bytes (omega (arith, length-token secret (header n) p))
+  verifying-passes = made-passes (taking (token n p) hr pr) table-good its-parts (header-bytes (chooses n)) bytes (mac-bytes secret (header n) p) (omega (arith, length-token secret (header n) p))
 
   pub long-header-refused : 1024 < 15 + n → verifyAnswer (taking (token n p) hr pr) ≡ 5
   long-header-refused k = header-refused (taking (token n p) hr pr) verifying-passes (omega (arith, its-header))

@@ -11,6 +11,7 @@ pub mod Promises
 pub mod Sides
 pub mod Starred
 pub mod Inhabited
+pub mod Witnesses
 -- Laws of these definitions.
 pub mod SegmentLaws
 pub mod TokenLaws

@@ -15,7 +15,9 @@ use Rattle.common.specs.Buffer.{filled}
 use Rattle.common.specs.First.{NoneOf, condition, earlier, numbers, among}
 use Rattle.common.specs.FirstLaws.{first-stands, none-stands, in-range, not-on, earlier-next, _also_}
 use Rattle.json_rules.specs.Rules.{longest, headerRules}
-use Rattle.json_rules.specs.Promises.{memberNumber, Read, member-first, read-exactly}
+use Rattle.json_rules.specs.Answers.{memberNumber, Read}
+use Rattle.json_rules.specs.Promises.{member-first}
+use Rattle.json_rules.specs.Demand3.{read-exactly}
 use Rattle.keytable_rules.specs.Table.{Wellformed}
 use Rattle.jose_rules.specs.declared.Choice.{Choice}
 use Rattle.jose_rules.specs.Rules.{Terms, termsOf}
@@ -189,7 +191,7 @@ module _ (h p T : List ℕ) (room : ℕ) (fits : finishedLength h p ≤ room) wh
 -- DEMAND 3
 
 in-order-read : {h : List ℕ} {q : Terms} {c : Choice} → length h ≤ longest → HeaderChooses h q c → Read h
-in-order-read {h} l w = read-exactly h l .1 (w .derivation, w .derives, w .shallow, w .once)
+in-order-read {h} l w = read-exactly h .1 (l, (w .derivation, w .derives, w .shallow, w .once))
 
 -- "Verifying and signing answer 0 only for a header that is read ..
 pub verify-reads : (q : VerifyCall) → verifyAnswer q ≡ 0 → Read (headerOf (q .token))

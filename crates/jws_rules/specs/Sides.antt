@@ -12,6 +12,7 @@ use Rattle.json_grammar_rules.specs.Reader.{skip, read}
 use Rattle.json_grammar_rules.specs.Unique.{not-derived}
 use Rattle.base64url_rules.specs.Base64url.{encode, decode, alphabetic, unusedBits, strict}
 use Rattle.base64url_rules.specs.LengthLaws.{length-encode}
+use Rattle.hmac.specs.Hmac.{HMACSHA256}
 use Rattle.hmac.specs.HmacLaws.{length-HMACSHA256}
 use Rattle.json_rules.specs.Rules.{deepest}
 use Rattle.keytable_rules.specs.Table.{Wellformed}
@@ -21,7 +22,7 @@ use Rattle.jose_rules.specs.HeaderLaws.{header-chooses}
 use Rattle.jose_rules.specs.Promises.{distinct}
 use Rattle.jws_rules.specs.Calls.{VerifyCall, verifyOf, SignCall}
 use Rattle.jws_rules.specs.Segments.{periods, front, back, period}
-use Rattle.jws_rules.specs.Token.{finishedLength, headerOf, payloadOf, signatureOf}
+use Rattle.jws_rules.specs.Token.{finishedLength, headerOf, payloadOf, signatureOf, sentInput, secretOf}
 use Rattle.jws_rules.specs.Rules.{verifying, signing}
 use Rattle.jws_rules.specs.Tests.{tokenChoice, verifyAnswer, signAnswer}
 use Rattle.jws_rules.specs.RuleLaws.{before-5, before-6, before-7}
@@ -51,12 +52,15 @@ module _ (q : VerifyCall) where
   payload-room-refused n k = verify-first q 6 refl .1 (inr k, n)
 
   -- "The signature segment decodes to these 32 bytes and to nothing more or less."
-  pub signature-refused : NoneOf (earlier (verifying q) 15) → (length (signatureOf (q .token)) ≡ 32 → ⊥) → verifyAnswer q ≡ 15
-  signature-refused n k =
+  pub differing-refused : NoneOf (earlier (verifying q) 15) → (signatureOf (q .token) ≡ HMACSHA256 (secretOf (q .table) (tokenChoice q)) (sentInput (q .token)) → ⊥) → verifyAnswer q ≡ 15
+  differing-refused n k =
       let h = headerOf (q .token) in
       let known = none-right (earlier (verifying q) 7) (joseRules h (termsOf (q .table))) n in
       let c = header-chooses h (termsOf (q .table)) (distinct (q .table) (not-on (earlier (verifying q) 15) n 2)) known in
-      verify-first q 15 refl .1 ((tokenChoice q, c, λ e. k (ap length e ∙ length-HMACSHA256 _ _)), n)
+      verify-first q 15 refl .1 ((tokenChoice q, c, k), n)
+
+  pub signature-refused : NoneOf (earlier (verifying q) 15) → (length (signatureOf (q .token)) ≡ 32 → ⊥) → verifyAnswer q ≡ 15
+  signature-refused n k = differing-refused n (λ e. k (ap length e ∙ length-HMACSHA256 _ _))
 
 pub header-characters : (h : List ℕ) → length h ≡ 1024 → length (encode h) ≡ 1366
 header-characters h e = rw (length-encode h, e)

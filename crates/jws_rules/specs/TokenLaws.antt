@@ -42,21 +42,19 @@ length-token secret h p =
     let m = encode (macOf secret h p) in
     omega (arith, length-dot (encode h) (encode p dot m), length-dot (encode p) m, length-mac secret h p)
 
--- A TOKEN THAT IS MADE has the segments, and these the bytes, of which it was made.
+-- A TOKEN THAT IS MADE of a header, a payload and a signature m has their segments, and these the bytes, of which it was made.
 
-pub record Parts (t secret h p : List ℕ) : Type 0 where
+pub record Parts (t h p m : List ℕ) : Type 0 where
   pub two : periods t ≡ 2
   pub segment1 : front t ≡ encode h
   pub segment2 : front (back t) ≡ encode p
-  pub segment3 : back (back t) ≡ encode (macOf secret h p)
+  pub segment3 : back (back t) ≡ encode m
   pub header : headerOf t ≡ h
   pub payload : payloadOf t ≡ p
-  pub signature : signatureOf t ≡ macOf secret h p
+  pub signature : signatureOf t ≡ m
 
-pub parts : {t secret h p : List ℕ} → t ≡ tokenOf secret h p → Bytes h → Bytes p → Parts t secret h p
-parts {t} {secret} {h} {p} e hb pb =
-    let m = macOf secret h p in
-    let mb = mac-bytes secret h p in
+pub parts : {t h p m : List ℕ} → t ≡ (encode h dot encode p dot encode m) → Bytes h → Bytes p → Bytes m → Parts t h p m
+parts {t} {h} {p} {m} e hb pb mb =
     let rest = encode p dot encode m in
     let hc = periods-encode hb in
     let pc = periods-encode pb in
