@@ -40,13 +40,13 @@ pub struct Key {
     pub formats: u8,
 }
 
-/// The secret isn't shown.
+/// The secret isn't shown, and neither is the id: in its table it may share bytes with a secret.
 impl fmt::Debug for Key {
     fn fmt(&self, f: &mut fmt::Formatter<'_>) -> fmt::Result {
         write!(
             f,
-            "key {}, a secret of {} bytes, ",
-            encoding::id(&self.id),
+            "an id of {}, a secret of {} bytes, ",
+            encoding::counted(self.id.len(), "byte"),
             self.secret.len()
         )?;
         write!(
@@ -444,7 +444,7 @@ mod tests {
         };
         assert_eq!(
             format!("{key:?}"),
-            "key \"a\", a secret of 32 bytes, algorithms HS256, formats 1,2"
+            "an id of 1 byte, a secret of 32 bytes, algorithms HS256, formats 1,2"
         );
     }
 }
