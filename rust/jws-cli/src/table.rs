@@ -93,6 +93,48 @@ pub struct Placed {
     pub secret_at: Range<usize>,
 }
 
+/// Bytes that an id shares with a secret. An id isn't secret, so whoever gets a token that names it knows them.
+#[derive(Clone, Debug, PartialEq, Eq)]
+pub struct Shared {
+    /// The key of the id, from 0.
+    pub id_of: usize,
+    /// The key of the secret, from 0.
+    pub secret_of: usize,
+    /// The bytes in the table.
+    pub bytes: Range<usize>,
+}
+
+/// Each id and secret that share bytes, in the order of the ids and then of the secrets.
+pub fn shared(keys: &[Placed]) -> Vec<Shared> {
+    let mut found = Vec::new();
+    for (id_of, Placed { id_at, .. }) in keys.iter().enumerate() {
+        for (secret_of, Placed { secret_at, .. }) in keys.iter().enumerate() {
+            found.extend(common(id_at, secret_at).map(|bytes| Shared {
+                id_of,
+                secret_of,
+                bytes,
+            }));
+        }
+    }
+    found
+}
+
+/// How an id lies to the secrets, in words; `None` if it lies apart from all.
+pub fn within_secrets(id_at: &Range<usize>, keys: &[Placed]) -> Option<&'static str> {
+    let is_secret = |byte: &usize| keys.iter().any(|other| other.secret_at.contains(byte));
+    match id_at.clone().filter(is_secret).count() {
+        0 => None,
+        within if within == id_at.len() => Some("inside a secret"),
+        _ => Some("partly inside a secret"),
+    }
+}
+
+/// The bytes that two areas have in common.
+fn common(one: &Range<usize>, other: &Range<usize>) -> Option<Range<usize>> {
+    let both = one.start.max(other.start)..one.end.min(other.end);
+    (!both.is_empty()).then_some(both)
+}
+
 /// The table of these keys, each key's id and secret one after the other. At most [`KEYS_MAX`] keys, of lengths that are allowed.
 pub fn lay_out(keys: &[Key]) -> Vec<u8> {
     let mut at = TABLE_MIN + ENTRY * keys.len();

@@ -7,7 +7,7 @@ use crate::encoding::{self, counted};
 use crate::files::{self, Readers};
 use crate::keys_file;
 use crate::options::{Command, Options, Subcommand};
-use crate::table::{self, Fault, Placed, Verdict};
+use crate::table::{self, Fault, Placed, Shared, Verdict};
 
 const COMMAND: Command = Command {
     name: "jws-table",
@@ -90,7 +90,11 @@ jws-table show [--secrets] TABLE.bin: shows a table in words
 Prints the edition, the number of keys and the length; then for each key, in one line, its index, its id (as text, or hexadecimal
 if it isn't printable UTF-8), its secret's length, where both lie in the file, its algorithms and its formats.
 
-  --secrets   prints the secrets too, in base64url
+  --secrets   prints the secrets too, in base64url, and every id
+
+An id that shares bytes with a secret isn't printed without --secrets, only its length and its place. Then a warning on standard
+error says which bytes are shared, one line for each such id and secret: every token that names the key gives these bytes of the
+secret away, so make a new secret and build the table anew. The table is good all the same, and the exit status is 0.
 
 Exit status: 0 shown, 1 the table is bad (what is wrong is told), 2 wrong arguments or a file that can't be read.
 
@@ -106,6 +110,9 @@ jws-table check TABLE.bin: says whether the proved library takes a table
 A good table gets one line. Of a bad one it is told which rules of the specification are broken, in which entry and which bytes,
 one line each; bytes and entries count from 0. Faults of the entries are told once the first eight bytes are right, and equal ids
 once the entries are.
+
+A good table in which an id shares bytes with a secret gets warnings too, on standard error, one line for each such id and secret:
+every token that names the key gives these bytes of the secret away, so make a new secret and build the table anew.
 
 Exit status: 0 good, 1 bad, 2 wrong arguments or a file that can't be read (or this command and the proved library differ about
 the table, which is a mistake in this command and is told).
@@ -153,10 +160,14 @@ fn build(options: &Options) -> Result<Answer, Failure> {
 
 fn show(options: &Options) -> Result<Answer, Failure> {
     let [path] = options.exactly(["TABLE.bin"])?;
+    let name = files::name(path);
     let table = files::read(path)?;
     match table::judge(&table) {
-        Verdict::Good(keys) => Ok(Answer::done(shown(&keys, table.len(), options.flag("--secrets")))),
-        Verdict::Bad(faults) => Ok(Answer::refused(bad(&files::name(path), &faults))),
+        Verdict::Good(keys) => Ok(Answer {
+            err: warnings(&name, &keys),
+            ..Answer::done(shown(&keys, table.len(), options.flag("--secrets")))
+        }),
+        Verdict::Bad(faults) => Ok(Answer::refused(bad(&name, &faults))),
         Verdict::Differs(says) => Err(Failure::Other(says)),
     }
 }
@@ -169,23 +180,35 @@ fn shown(keys: &[Placed], length: usize, secrets: bool) -> String {
         counted(length, "byte")
     );
     for (index, placed) in keys.iter().enumerate() {
-        text += &format!("key {index}: {}\n", key(placed, secrets));
+        let id = id(placed, keys, secrets);
+        text += &format!("key {index}: id {id}, {}\n", key(placed, secrets));
     }
     text
 }
 
-/// A key in words, its secret only if it is asked for.
+/// An id and its place; one that has bytes of a secret is shown only if secrets are asked for.
+fn id(placed: &Placed, keys: &[Placed], secrets: bool) -> String {
+    let Placed { key, id_at, .. } = placed;
+    let at = table::places(id_at);
+    match table::within_secrets(id_at, keys) {
+        Some(within) if !secrets => {
+            let length = counted(key.id.len(), "byte");
+            format!("of {length} {within} ({at}; --secrets shows it)")
+        }
+        _ => format!("{} ({at})", encoding::id(&key.id)),
+    }
+}
+
+/// What comes after a key's id in words, its secret only if it is asked for.
 fn key(placed: &Placed, secrets: bool) -> String {
-    let Placed { key, id_at, secret_at } = placed;
+    let Placed { key, secret_at, .. } = placed;
     let secret = if secrets {
         format!("base64url:{}", encoding::base64url(&key.secret))
     } else {
         format!("of {} bytes", key.secret.len())
     };
     format!(
-        "id {} ({}), secret {secret} ({}), algorithms {}, formats {}",
-        encoding::id(&key.id),
-        table::places(id_at),
+        "secret {secret} ({}), algorithms {}, formats {}",
         table::places(secret_at),
         key.algorithms_in_words(),
         key.formats_in_words()
@@ -196,16 +219,40 @@ fn check(options: &Options) -> Result<Answer, Failure> {
     let [path] = options.exactly(["TABLE.bin"])?;
     let name = files::name(path);
     match table::judge(&files::read(path)?) {
-        Verdict::Good(keys) => Ok(Answer::done(format!(
-            "{name}: good table, {}\n",
-            counted(keys.len(), "key")
-        ))),
+        Verdict::Good(keys) => Ok(Answer {
+            err: warnings(&name, &keys),
+            ..Answer::done(format!("{name}: good table, {}\n", counted(keys.len(), "key")))
+        }),
         Verdict::Bad(faults) => Ok(Answer {
             status: Status::Refused,
             ..Answer::done(bad(&name, &faults))
         }),
         Verdict::Differs(says) => Err(Failure::Other(format!("{name}: {says}"))),
     }
+}
+
+/// A line for each id and secret that share bytes.
+fn warnings(name: &str, keys: &[Placed]) -> String {
+    let warning = |shared: &Shared| format!("{name}: warning: {}\n", warning(shared, keys));
+    table::shared(keys).iter().map(warning).collect()
+}
+
+/// Which bytes of a secret are given away, by what, and what to do.
+fn warning(shared: &Shared, keys: &[Placed]) -> String {
+    let Shared {
+        id_of,
+        secret_of,
+        bytes,
+    } = shared;
+    let these = if bytes.len() == 1 { "this byte" } else { "these bytes" };
+    format!(
+        "key {id_of}'s id ({}) shares {} with key {secret_of}'s secret ({}). An id isn't secret: every token that names key \
+         {id_of} gives {these} of the secret away. Make a new secret for key {secret_of} and build the table anew: \
+         `jws-table build` lays ids and secrets apart.",
+        table::places(&keys[*id_of].id_at),
+        table::places(bytes),
+        table::places(&keys[*secret_of].secret_at)
+    )
 }
 
 fn bad(name: &str, faults: &[Fault]) -> String {

@@ -2,6 +2,8 @@
 
 mod common;
 
+use std::ops::Range;
+
 use case_generator::rng::Rng;
 use common::{published, Folder, Ran, PUBLISHED_SECRET, TABLE};
 use jws_cli::encoding::{base64url, hex, id};
@@ -77,6 +79,7 @@ fn built_shown_and_checked() {
         let built = folder.read("table.bin");
         let again = reference::table::parse(&built).unwrap();
         assert_eq!(again, keys, "case {case}: {text}");
+        assert_eq!(shared(&built), [], "case {case}: {text}");
         assert_eq!(folder.run(TABLE, &["check", "table.bin"]).done().lines().count(), 1);
         let said = folder.run(TABLE, &["show", "--secrets", "table.bin"]);
         let (first, rest) = said.done().split_once('\n').unwrap();
@@ -98,7 +101,8 @@ fn checked(folder: &Folder, table: &[u8]) -> bool {
     let check = folder.run(TABLE, &["check", "table.bin"]);
     let good = reference::table::parse(table).is_ok();
     let said = check.text().to_string();
-    assert_eq!((check.status, check.err.as_str()), (i32::from(!good), ""), "{table:?}");
+    let warnings = if good { warned(table) } else { String::new() };
+    assert_eq!((check.status, check.err), (i32::from(!good), warnings), "{table:?}");
     assert_eq!(said.lines().count() == 1, good, "{said}");
     for fault in said.lines().skip(1) {
         assert!(fault.contains("byte") && fault.contains("(rule: "), "{fault}");
@@ -526,4 +530,279 @@ fn usage() {
         }
     }
     assert_eq!(folder.names(), ["table.bin"]);
+}
+
+/// Where an entry says that its key's id and secret lie.
+type Areas = (Range<usize>, Range<usize>);
+
+/// The areas of each entry of a table; none if there aren't as many entries as it says.
+fn areas(table: &[u8]) -> Vec<Areas> {
+    let number = |at: usize| usize::from(table[at]) << 8 | usize::from(table[at + 1]);
+    if table.len() < 8 || table.len() < 8 + 12 * number(2) {
+        return Vec::new();
+    }
+    let area = |at: usize| number(at)..number(at) + number(at + 2);
+    (0..number(2)).map(|k| (area(8 + 12 * k), area(12 + 12 * k))).collect()
+}
+
+/// The key of an id, the key of a secret, and each byte that the two share.
+fn shared(table: &[u8]) -> Vec<(usize, usize, Vec<usize>)> {
+    let mut found = Vec::new();
+    for (i, (id, _)) in areas(table).iter().enumerate() {
+        for (s, (_, secret)) in areas(table).iter().enumerate() {
+            let both: Vec<usize> = id.clone().filter(|byte| secret.contains(byte)).collect();
+            found.extend((!both.is_empty()).then_some((i, s, both)));
+        }
+    }
+    found
+}
+
+/// Places in words.
+fn places(first: usize, last: usize) -> String {
+    if first == last {
+        format!("byte {first}")
+    } else {
+        format!("bytes {first}-{last}")
+    }
+}
+
+/// The warnings of a good table.
+fn warned(table: &[u8]) -> String {
+    let areas = areas(table);
+    let line = |(i, s, both): &(usize, usize, Vec<usize>)| {
+        let of = |area: &Range<usize>| places(area.start, area.end - 1);
+        let (id, secret) = (of(&areas[*i].0), of(&areas[*s].1));
+        let bytes = places(both[0], both[both.len() - 1]);
+        let these = if both.len() == 1 { "this byte" } else { "these bytes" };
+        format!(
+            "table.bin: warning: key {i}'s id ({id}) shares {bytes} with key {s}'s secret ({secret}). An id isn't secret: \
+             every token that names key {i} gives {these} of the secret away. Make a new secret for key {s} and build the \
+             table anew: `jws-table build` lays ids and secrets apart.\n"
+        )
+    };
+    shared(table).iter().map(line).collect()
+}
+
+/// A table of keys with these areas, for HS256 and formats 1 and 3, and of these bytes behind the entries.
+fn table_of(keys: &[Areas], bytes: &[u8]) -> Vec<u8> {
+    let length = 8 + 12 * keys.len() + bytes.len();
+    let mut table = vec![0, 1, 0, keys.len() as u8, 0, 0, 0, length as u8];
+    for (id, secret) in keys {
+        for number in [id.start, id.len(), secret.start, secret.len()] {
+            table.extend([0, number as u8]);
+        }
+        table.extend([1, 5, 0, 0]);
+    }
+    table.extend(bytes);
+    table
+}
+
+/// Bytes that are all different, so that each can be found in what is said.
+const LETTERS: &[u8] = b"0123456789ABCDEFGHIJKLMNOPQRSTUVWXYZabcdefghijklmnopqrstuvwxyz-_.,;:+*/=?!$%&()[]{}<>^~#@|";
+
+/// Holds what a command says of `table.bin` against its status, its whole standard output and its whole standard error.
+fn says(folder: &Folder, words: &[&str], status: i32, out: &str, err: &str) {
+    let ran = folder.run(TABLE, words);
+    assert_eq!(
+        (ran.status, ran.text(), ran.err.as_str()),
+        (status, out, err),
+        "{words:?}"
+    );
+}
+
+/// Holds all that is said of a good table against what `show` says, with and without `--secrets`, and the warnings.
+fn all_said(folder: &Folder, table: &[u8], shown: &str, openly: &str, warnings: &str) {
+    assert!(reference::table::parse(table).is_ok());
+    folder.write("table.bin", table);
+    says(folder, &["show", "table.bin"], 0, shown, warnings);
+    says(folder, &["show", "--secrets", "table.bin"], 0, openly, warnings);
+    let keys = if table[3] == 1 { "1 key" } else { "2 keys" };
+    let good = format!("table.bin: good table, {keys}\n");
+    says(folder, &["check", "table.bin"], 0, &good, warnings);
+}
+
+#[test]
+fn an_id_inside_its_secret_is_warned_of() {
+    let folder = Folder::new("inside");
+    // The shortest table with a key, as the specification has it.
+    all_said(
+        &folder,
+        &table_of(&[(20..21, 20..52)], &[b'A'; 32]),
+        "edition 1, 1 key, 52 bytes\n\
+         key 0: id of 1 byte inside a secret (byte 20; --secrets shows it), secret of 32 bytes (bytes 20-51), \
+         algorithms HS256, formats 1,3\n",
+        "edition 1, 1 key, 52 bytes\n\
+         key 0: id \"A\" (byte 20), secret base64url:QUFBQUFBQUFBQUFBQUFBQUFBQUFBQUFBQUFBQUFBQUE (bytes 20-51), \
+         algorithms HS256, formats 1,3\n",
+        "table.bin: warning: key 0's id (byte 20) shares byte 20 with key 0's secret (bytes 20-51). An id isn't secret: every \
+         token that names key 0 gives this byte of the secret away. Make a new secret for key 0 and build the table anew: \
+         `jws-table build` lays ids and secrets apart.\n",
+    );
+    // With areas apart.
+    let apart = "edition 1, 1 key, 53 bytes\nkey 0: id \"A\" (byte 20), secret ";
+    let rest = "(bytes 21-52), algorithms HS256, formats 1,3\n";
+    all_said(
+        &folder,
+        &table_of(&[(20..21, 21..53)], &[b'A'; 33]),
+        &format!("{apart}of 32 bytes {rest}"),
+        &format!("{apart}base64url:QUFBQUFBQUFBQUFBQUFBQUFBQUFBQUFBQUFBQUFBQUE {rest}"),
+        "",
+    );
+}
+
+#[test]
+fn an_id_over_the_edge_of_a_secret_is_warned_of() {
+    let folder = Folder::new("edge");
+    for (id, secret, name, first, warning) in [
+        (
+            20..23,
+            22..54,
+            "012",
+            2,
+            "(bytes 20-22) shares byte 22 with key 0's secret (bytes 22-53)",
+        ),
+        (
+            51..54,
+            20..52,
+            "VWX",
+            0,
+            "(bytes 51-53) shares byte 51 with key 0's secret (bytes 20-51)",
+        ),
+    ] {
+        let (id_at, at) = (places(id.start, id.end - 1), places(secret.start, secret.end - 1));
+        let rest = format!("({at}), algorithms HS256, formats 1,3\n");
+        let encoded = base64url(&LETTERS[first..first + 32]);
+        all_said(
+            &folder,
+            &table_of(&[(id, secret)], &LETTERS[..34]),
+            &format!(
+                "edition 1, 1 key, 54 bytes\nkey 0: id of 3 bytes partly inside a secret ({id_at}; --secrets shows it), \
+                 secret of 32 bytes {rest}"
+            ),
+            &format!("edition 1, 1 key, 54 bytes\nkey 0: id \"{name}\" ({id_at}), secret base64url:{encoded} {rest}"),
+            &format!(
+                "table.bin: warning: key 0's id {warning}. An id isn't secret: every token that names key 0 gives this byte \
+                 of the secret away. Make a new secret for key 0 and build the table anew: `jws-table build` lays ids and \
+                 secrets apart.\n"
+            ),
+        );
+    }
+    // Beside a secret.
+    for (id, secret) in [(20..22, 22..54), (52..54, 20..52)] {
+        folder.write("table.bin", table_of(&[(id, secret)], &LETTERS[..34]));
+        assert!(!folder.run(TABLE, &["show", "table.bin"]).done().contains("inside"));
+        folder.run(TABLE, &["check", "table.bin"]).done();
+    }
+}
+
+#[test]
+fn an_id_inside_secrets_of_other_keys_is_warned_of() {
+    let folder = Folder::new("others");
+    // Bytes 32-63 are the secret of key 0, 64-95 of key 1; the id of key 0 is byte 96.
+    let two = |id: Range<usize>| table_of(&[(96..97, 32..64), (id, 64..96)], &LETTERS[..65]);
+    let first = "edition 1, 2 keys, 97 bytes\nkey 0: id \".\" (byte 96), secret ";
+    let rest = "algorithms HS256, formats 1,3";
+    let [secret0, secret1] = [&LETTERS[..32], &LETTERS[32..64]].map(base64url);
+    for (id, name, inside) in [
+        (40..44, "89AB", "inside a secret"),
+        // In both secrets together.
+        (62..66, "UVWX", "inside a secret"),
+        (95..97, "_.", "partly inside a secret"),
+    ] {
+        let (table, length, at) = (two(id.clone()), id.len(), places(id.start, id.end - 1));
+        all_said(
+            &folder,
+            &table,
+            &format!(
+                "{first}of 32 bytes (bytes 32-63), {rest}\nkey 1: id of {length} bytes {inside} ({at}; --secrets shows it), \
+                 secret of 32 bytes (bytes 64-95), {rest}\n"
+            ),
+            &format!(
+                "{first}base64url:{secret0} (bytes 32-63), {rest}\n\
+                 key 1: id \"{name}\" ({at}), secret base64url:{secret1} (bytes 64-95), {rest}\n"
+            ),
+            &warned(&table),
+        );
+    }
+    assert_eq!(
+        warned(&two(40..44)),
+        "table.bin: warning: key 1's id (bytes 40-43) shares bytes 40-43 with key 0's secret (bytes 32-63). An id isn't \
+         secret: every token that names key 1 gives these bytes of the secret away. Make a new secret for key 0 and build \
+         the table anew: `jws-table build` lays ids and secrets apart.\n"
+    );
+    assert_eq!(warned(&two(62..66)).lines().count(), 2);
+}
+
+/// All that is said of a table without `--secrets`.
+fn said(folder: &Folder, table: &[u8]) -> [(i32, String, String); 2] {
+    folder.write("table.bin", table);
+    ["show", "check"].map(|word| {
+        let ran = folder.run(TABLE, &[word, "table.bin"]);
+        (ran.status, ran.text().to_string(), ran.err)
+    })
+}
+
+/// The same table with another byte for each byte of a secret.
+fn other_secrets(rng: &mut Rng, table: &[u8], secrets: &[Areas]) -> Vec<u8> {
+    let is_secret = |byte: &usize| secrets.iter().any(|(_, secret)| secret.contains(byte));
+    let mut other = table.to_vec();
+    for byte in (0..table.len()).filter(is_secret) {
+        other[byte] ^= rng.within(1..=255) as u8;
+    }
+    other
+}
+
+/// Whether eight bytes of a secret one after another can be read in a text.
+fn gives_away(text: &str, secret: &[u8]) -> bool {
+    let letters = |part: &[u8]| std::str::from_utf8(part).is_ok_and(|part| text.contains(part));
+    let encoded = |encoded: String| encoded.as_bytes().windows(11).any(letters);
+    secret.windows(8).any(|part| letters(part) || text.contains(&hex(part))) || encoded(base64url(secret))
+}
+
+#[test]
+fn nothing_said_depends_on_a_secret() {
+    let folder = Folder::new("depends");
+    let (mut apart, mut inside) = (0, 0);
+    for (case, table) in case_generator::tables(64).enumerate() {
+        let rng = &mut Rng::of_case(65, case as u64);
+        let other = other_secrets(rng, &table, &areas(&table));
+        let (Ok(_), Ok(keys)) = (reference::table::parse(&table), reference::table::parse(&other)) else {
+            continue;
+        };
+        let told = said(&folder, &table);
+        assert_eq!(told, said(&folder, &other), "{table:?}");
+        // These secrets are random, so that no id has their bytes by chance.
+        for key in keys {
+            assert!(!gives_away(&format!("{told:?}"), key.secret), "{table:?}: {told:?}");
+        }
+        *(if shared(&table).is_empty() {
+            &mut apart
+        } else {
+            &mut inside
+        }) += 1;
+        if apart >= TABLES && inside >= TABLES / 5 {
+            break;
+        }
+    }
+    println!("{apart} tables with ids apart, {inside} with an id in a secret");
+}
+
+#[test]
+fn built_tables_have_no_id_inside_a_secret() {
+    let folder = Folder::new("apart");
+    // Both ids are parts of both secrets, and the secrets are equal.
+    let secret = "0123456789abcdef0123456789abcdef";
+    let key = |id: &str| format!("id \"{id}\" secret \"{secret}\" algorithms HS256 formats 1\n");
+    folder.write("keys.txt", [key("0"), key("def0")].concat());
+    folder.run(TABLE, &["build", "keys.txt", "table.bin"]).done();
+    let table = folder.read("table.bin");
+    assert_eq!(areas(&table), [(32..33, 33..65), (65..69, 69..101)]);
+    assert_eq!(shared(&table), []);
+    says(
+        &folder,
+        &["check", "table.bin"],
+        0,
+        "table.bin: good table, 2 keys\n",
+        "",
+    );
 }
