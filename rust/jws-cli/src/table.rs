@@ -369,7 +369,7 @@ fn equal_ids(keys: &[Placed]) -> Vec<Fault> {
         let id = &placed.key.id;
         if let Some(earlier) = keys[..entry].iter().position(|earlier| earlier.key.id == *id) {
             let at = places(&keys[earlier].id_at);
-            let found = format!("the id {} is also the id of entry {earlier} ({at})", encoding::id(id));
+            let found = format!("{} is also the id of entry {earlier} ({at})", told_id(id, keys));
             let bytes = placed.id_at.clone();
             faults.push(Fault {
                 entry: Some(entry),
@@ -380,6 +380,17 @@ fn equal_ids(keys: &[Placed]) -> Vec<Fault> {
         }
     }
     faults
+}
+
+/// An id in words; it isn't shown if it or an equal one shares bytes with a secret.
+fn told_id(id: &[u8], keys: &[Placed]) -> String {
+    let kept = |key: &Placed| key.key.id == id && within_secrets(&key.id_at, keys).is_some();
+    if keys.iter().any(kept) {
+        let length = encoding::counted(id.len(), "byte");
+        format!("the id of {length} (not shown, as it has bytes of a secret)")
+    } else {
+        format!("the id {}", encoding::id(id))
+    }
 }
 
 /// A big-endian number of at most four bytes.

@@ -733,6 +733,34 @@ fn an_id_inside_secrets_of_other_keys_is_warned_of() {
     assert_eq!(warned(&two(62..66)).lines().count(), 2);
 }
 
+#[test]
+fn equal_ids_inside_secrets_are_kept() {
+    let folder = Folder::new("equal");
+    let kept = "the id of 1 byte (not shown, as it has bytes of a secret) is also the id of entry 0";
+    let rule = "(rule: two ids are never equal byte for byte)";
+    let mut bytes = LETTERS[..67].to_vec();
+    bytes[65..].copy_from_slice(b"00");
+    let three = |ids: [usize; 3]| {
+        let keys = ids.map(|id| (id..id + 1, 44..76));
+        table_of(&keys, &bytes)
+    };
+    for (ids, entries) in [
+        // Byte 44 is the secret's first, 109 and 110 are equal to it and lie apart.
+        ([44, 44, 109], [(1, 44, 44), (2, 109, 44)]),
+        ([109, 110, 44], [(1, 110, 109), (2, 44, 109)]),
+    ] {
+        folder.write("table.bin", three(ids));
+        let faults: String = entries
+            .iter()
+            .map(|(entry, at, earlier)| format!("  entry {entry}, byte {at}: {kept} (byte {earlier}) {rule}\n"))
+            .collect();
+        let bad = format!("table.bin: bad table\n{faults}");
+        says(&folder, &["check", "table.bin"], 1, &bad, "");
+        says(&folder, &["show", "table.bin"], 1, "", &bad);
+        says(&folder, &["show", "--secrets", "table.bin"], 1, "", &bad);
+    }
+}
+
 /// All that is said of a table without `--secrets`.
 fn said(folder: &Folder, table: &[u8]) -> [(i32, String, String); 2] {
     folder.write("table.bin", table);
