@@ -276,10 +276,37 @@ fn entries(count: usize) -> String {
     format!("{count} {}", if count == 1 { "entry" } else { "entries" })
 }
 
+/// The bytes of an entry.
+fn row_at(entry: usize) -> Range<usize> {
+    let at = TABLE_MIN + ENTRY * entry;
+    at..at + ENTRY
+}
+
+/// The fault of an entry that lies where an earlier one has its secret. If the number of keys is too high, these bytes are
+/// that secret; so no number in them is told. A later entry's secret can't lie here, whatever the number of keys is.
+fn secret_here(table: &[u8], entry: usize) -> Option<Fault> {
+    (0..entry).find_map(|earlier| {
+        let secret_at = area(&table[row_at(earlier)][4..8]);
+        let bytes = common(&secret_at, &row_at(entry))?;
+        let found = format!(
+            "entry {earlier} has its secret here, so nothing in entry {entry} is told; look at the number of keys"
+        );
+        Some(Fault {
+            entry: Some(entry),
+            bytes,
+            found,
+            rule: BEGIN,
+        })
+    })
+}
+
 /// The key of one entry.
 fn key(table: &[u8], count: usize, entry: usize) -> Result<Placed, Vec<Fault>> {
-    let at = TABLE_MIN + ENTRY * entry;
-    let row = &table[at..at + ENTRY];
+    if let Some(fault) = secret_here(table, entry) {
+        return Err(vec![fault]);
+    }
+    let at = row_at(entry).start;
+    let row = &table[row_at(entry)];
     let mut faults = Vec::new();
     let id_at = area(&row[0..4]);
     let secret_at = area(&row[4..8]);

@@ -109,7 +109,7 @@ jws-table check TABLE.bin: says whether the proved library takes a table
 
 A good table gets one line. Of a bad one it is told which rules of the specification are broken, in which entry and which bytes,
 one line each; bytes and entries count from 0. Faults of the entries are told once the first eight bytes are right, and equal ids
-once the entries are.
+once the entries are. No byte is told that lies within a secret.
 
 A good table in which an id shares bytes with a secret gets warnings too, on standard error, one line for each such id and secret:
 every token that names the key gives these bytes of the secret away, so make a new secret and build the table anew.

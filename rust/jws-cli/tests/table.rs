@@ -761,6 +761,38 @@ fn equal_ids_inside_secrets_are_kept() {
     }
 }
 
+#[test]
+fn secrets_taken_for_entries_are_kept() {
+    let folder = Folder::new("entries");
+    let mut table = two_keys();
+    table[3] = 4;
+    folder.write("table.bin", &table);
+    let rule = "(rule: an id or a secret begins after the last entry)";
+    let begins = |entry: usize, field: usize, what: &str, at: usize| {
+        format!(
+            "  entry {entry}, bytes {field}-{}: the {what} begins at byte {at}, and the entries end at byte 55 {rule}\n",
+            field + 1
+        )
+    };
+    let kept = |entry: usize, bytes: &str| {
+        format!(
+            "  entry {entry}, bytes {bytes}: entry 0 has its secret here, so nothing in entry {entry} is told; look at the \
+             number of keys {rule}\n"
+        )
+    };
+    let bad = [
+        "table.bin: bad table\n".to_string(),
+        begins(0, 8, "id", 32),
+        begins(0, 12, "secret", 33),
+        kept(2, "33-43"),
+        kept(3, "44-55"),
+    ]
+    .concat();
+    says(&folder, &["check", "table.bin"], 1, &bad, "");
+    says(&folder, &["show", "table.bin"], 1, "", &bad);
+    says(&folder, &["show", "--secrets", "table.bin"], 1, "", &bad);
+}
+
 /// All that is said of a table without `--secrets`.
 fn said(folder: &Folder, table: &[u8]) -> [(i32, String, String); 2] {
     folder.write("table.bin", table);
@@ -813,6 +845,67 @@ fn nothing_said_depends_on_a_secret() {
         }
     }
     println!("{apart} tables with ids apart, {inside} with an id in a secret");
+}
+
+#[test]
+fn nothing_said_of_a_wrong_number_of_keys_depends_on_a_secret() {
+    let folder = Folder::new("number");
+    let mut bad = 0;
+    for case in 0..TABLES as u64 {
+        let rng = &mut Rng::of_case(66, case);
+        let count = rng.within(1..=8);
+        // An id is shorter than an entry, so that none of the entries that aren't there lies in an id.
+        let keys: Vec<jws_cli::table::Key> = (0..count)
+            .map(|k| {
+                let (id_length, secret_length) = (rng.within(1..=11), rng.within(32..=128));
+                jws_cli::table::Key {
+                    id: vec![b'a' + k as u8; id_length],
+                    secret: rng.bytes(secret_length),
+                    algorithms: 1,
+                    formats: 1,
+                }
+            })
+            .collect();
+        let table = jws_cli::table::lay_out(&keys);
+        let mut other = other_secrets(rng, &table, &areas(&table));
+        let mut table = table;
+        let number = rng.within(count + 1..=32) as u8;
+        (table[3], other[3]) = (number, number);
+        let told = said(&folder, &table);
+        assert_eq!(told, said(&folder, &other), "{table:?}");
+        assert_eq!(told[1].0, 1, "{told:?}");
+        bad += usize::from(told[1].1.contains("is told; look at the number of keys"));
+    }
+    println!("{bad} of {TABLES} tables with secrets among the entries");
+    assert!(bad > TABLES / 4, "{bad}");
+}
+
+#[test]
+fn entries_in_secrets_are_kept_whatever_the_damage() {
+    let (mut told, mut kept) = (0, 0);
+    for table in case_generator::tables(67).take(20_000) {
+        let Err(faults) = jws_cli::table::read(&table) else {
+            continue;
+        };
+        let areas = areas(&table);
+        for (entry, fault) in faults
+            .iter()
+            .filter_map(|fault| fault.entry.map(|entry| (entry, fault)))
+        {
+            let row = 8 + 12 * entry..20 + 12 * entry;
+            let in_secret = areas[..entry]
+                .iter()
+                .any(|(_, secret)| row.clone().any(|byte| secret.contains(&byte)));
+            assert_eq!(
+                fault.found.contains("nothing in entry"),
+                in_secret,
+                "{fault}: {table:?}"
+            );
+            *(if in_secret { &mut kept } else { &mut told }) += 1;
+        }
+    }
+    println!("{told} faults of entries told, {kept} entries kept");
+    assert!(told > 500 && kept > 50, "{told} {kept}");
 }
 
 #[test]
