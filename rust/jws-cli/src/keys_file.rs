@@ -65,14 +65,11 @@ fn not_utf8(bytes: &[u8], at: usize) -> Mistake {
     let before = String::from_utf8_lossy(&bytes[..at]);
     let line = before.matches('\n').count() + 1;
     let last = before.rsplit('\n').next().unwrap_or("");
-    let says = format!(
-        "byte {:02X} hexadecimal isn't UTF-8 here; in quoted text write \\x{:02X}",
-        bytes[at], bytes[at]
-    );
     Mistake {
         line,
         column: column(last, last.len()),
-        says,
+        // The byte isn't shown: it may be a secret's, also if this file is a table by mistake.
+        says: "this byte isn't UTF-8; in quoted text it is written \\xNN".into(),
     }
 }
 

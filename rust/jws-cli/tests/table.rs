@@ -326,9 +326,9 @@ fn every_mistake_told() {
         assert!(said.contains(expected) && said.lines().count() == 1, "{line}: {said}");
     }
     let said = mistakes(&folder, b"\n# \xC3\xA9\xFF\n");
-    assert!(
-        said.starts_with("keys.txt: line 2, column 4: byte FF hexadecimal isn't UTF-8"),
-        "{said}"
+    assert_eq!(
+        said,
+        "keys.txt: line 2, column 4: this byte isn't UTF-8; in quoted text it is written \\xNN\n"
     );
 }
 
