@@ -15,7 +15,7 @@ use Rattle.json_grammar_rules.specs.declared.Kind.{Kind}
 use Rattle.json_string.specs.declared.End.{End}
 use Rattle.json_rules.specs.declared.Place.{Place}
 use Rattle.json_rules.specs.Rules.{longest, deepest}
-use Rattle.json_rules.specs.Answers.{membersIn, grammarTests}
+use Rattle.json_rules.specs.Tests.{membersIn, grammarTests}
 use Rattle.json_rules.specs.AnswerLaws.{grammar-read}
 use Rattle.json_members.specs.declared.slots.Slot.{Slot}
 use Rattle.json_members.specs.declared.slots.Slot.the-variants.{Absent, Is}

@@ -3,7 +3,7 @@ use mathlib.Core.List.{List, [], _∷_, _++_}
 use Prim.Native.Nat.{ℕ}
 use lib.ListN.{length}
 use Rattle.common.specs.First.{Test, first, settle}
-use Rattle.json_rules.specs.Answers.{lengthTest}
+use Rattle.json_rules.specs.Tests.{lengthTest}
 use Rattle.keytable_rules.specs.Table.{tableTest, keys}
 use Rattle.jose_rules.specs.declared.Choice.{Choice}
 use Rattle.jose_rules.specs.declared.Decision.{Decision}

@@ -21,7 +21,7 @@ use Rattle.json_grammar_rules.specs.Complete.{complete}
 use Rattle.json_grammar_rules.specs.Unique.{one-reading}
 use Rattle.json_grammar_rules.specs.Written.{derived-bytes}
 use Rattle.json_rules.specs.Rules.{deepest, grammarRules}
-use Rattle.json_rules.specs.Answers.{membersIn}
+use Rattle.json_rules.specs.Tests.{membersIn}
 use Rattle.json_rules.specs.Promises.{derivation, grammar-agree}
 use Rattle.keytable_rules.specs.Key.{Key, Distinct}
 use Rattle.jose_rules.specs.declared.Part.{Part}

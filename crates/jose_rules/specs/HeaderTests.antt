@@ -8,7 +8,7 @@ use Rattle.json_grammar_rules.specs.Value.{LMembers, lnil, lcons, plainMembers}
 use Rattle.json_grammar_rules.specs.Places.{placed}
 use Rattle.json_grammar_rules.specs.Reader.{read}
 use Rattle.json_rules.specs.Rules.{deepest}
-use Rattle.json_rules.specs.Answers.{membersIn, grammarTests}
+use Rattle.json_rules.specs.Tests.{membersIn, grammarTests}
 use Rattle.keytable_rules.specs.Key.{Key}
 use Rattle.jose_rules.specs.declared.Part.{Part}
 use Rattle.jose_rules.specs.declared.Choice.{Choice}

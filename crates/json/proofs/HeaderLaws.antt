@@ -20,7 +20,8 @@ use Rattle.json_members.specs.StepLaws.{top-members}
 use Rattle.json_rules.specs.declared.Member.{Member}
 use Rattle.json_rules.specs.declared.Member.the-variants.{Refused}
 use Rattle.json_rules.specs.Rules.{longest, deepest}
-use Rattle.json_rules.specs.Answers.{membersIn, grammarTests, headerTests, checked, place, shownBy, answerFor, unlessRefused, memberOf}
+use Rattle.json_rules.specs.Answers.{place, shownBy, answerFor}
+use Rattle.json_rules.specs.Tests.{membersIn, grammarTests, headerTests, checked, unlessRefused, memberOf}
 use Rattle.json_rules.specs.AnswerLaws.{checked-read}
 use Rattle.json.specs.Picks.{Picks}
 

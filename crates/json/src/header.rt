@@ -14,7 +14,8 @@ use json_string::End;
 ghost use mathlib.Core.Path.{_≡_};
 ghost use Prim.Native.Nat.{_<_};
 ghost use lib.ListN.{length};
-ghost use Rattle.json_rules.specs.Answers.{checked, shownBy, memberOf};
+ghost use Rattle.json_rules.specs.Answers.{shownBy};
+ghost use Rattle.json_rules.specs.Tests.{checked, memberOf};
 ghost use Rattle.json.specs.Picks.{Picks};
 
 // What a header answers: 5 if it is too long; else what its text answers within the greatest depth.

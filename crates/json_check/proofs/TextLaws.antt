@@ -10,7 +10,7 @@ use Rattle.json_grammar_rules.specs.Value.{LMembers}
 use Rattle.json_grammar_rules.specs.Reader.{Got, read}
 use Rattle.json_grammar_rules.specs.ScanLaws.{scan-read}
 use Rattle.json_reader.specs.Contracts.{isText}
-use Rattle.json_rules.specs.Answers.{membersIn, twiceIn, grammarTests}
+use Rattle.json_rules.specs.Tests.{membersIn, twiceIn, grammarTests}
 use Rattle.json_rules.specs.AnswerLaws.{text-read}
 use Rattle.json_check.specs.Twice.{TwiceFrom}
 

@@ -8,7 +8,7 @@ use answers::NOT_DERIVED;
 use json_reader::text;
 ghost use mathlib.Core.Path.{_≡_};
 ghost use Rattle.common.specs.First.{first};
-ghost use Rattle.json_rules.specs.Answers.{grammarTests};
+ghost use Rattle.json_rules.specs.Tests.{grammarTests};
 
 // What a text of any length answers within the depth: 0 if it is read; 7 if it isn't derived by the grammar, or nests too deep; 8 if one object has a name twice.
 // Rules out 8 for a text that breaks off after two equal names, and 0 for two names that are equal after their escapes are resolved.

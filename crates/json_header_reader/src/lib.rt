@@ -1,7 +1,7 @@
 // A reader that holds a header and the number of a member, over the member reader on bytes and number.
 use json::Member;
 ghost use mathlib.Core.Path.{_≡_};
-ghost use Rattle.json_rules.specs.Answers.{memberOf};
+ghost use Rattle.json_rules.specs.Tests.{memberOf};
 ghost use Rattle.json_header_reader.specs.Following.{followingOf};
 
 pub struct HeaderReader<'a> {

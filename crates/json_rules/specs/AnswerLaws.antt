@@ -11,7 +11,7 @@ use Rattle.json_grammar_rules.specs.Value.{LMembers}
 use Rattle.json_grammar_rules.specs.Reader.{Got, bad, got, read}
 use Rattle.json_grammar_rules.specs.Unique.{isGot}
 use Rattle.json_rules.specs.Rules.{deepest}
-use Rattle.json_rules.specs.Answers.{grammarTests, headerTests, checked}
+use Rattle.json_rules.specs.Tests.{grammarTests, headerTests, checked}
 
 -- what is read, of a text
 pub text-read : (d : ℕ) (h : List ℕ) → isGot (read d h) ≡ true → (ms : LMembers) × (x : List ℕ) × (read d h ≡ got ms x)

@@ -12,7 +12,8 @@ use Rattle.json_grammar_rules.specs.Grammar.{Derivation, bytes, membersOf}
 use Rattle.json_grammar_rules.specs.Places.{member}
 use Rattle.json_grammar_rules.specs.Unique.{one-reading, one-depth}
 use Rattle.json_rules.specs.Rules.{longest, DerivedOnce}
-use Rattle.json_rules.specs.Answers.{answerFor, memberOf, Read}
+use Rattle.json_rules.specs.Answers.{answerFor}
+use Rattle.json_rules.specs.Tests.{memberOf, Read}
 use Rattle.json_rules.specs.Promises.{read-short, read-within, member-is}
 
 -- a header is read exactly when it has at most 1,024 bytes and the grammar derives it

@@ -27,7 +27,8 @@ use Rattle.json_grammar_rules.specs.ShownLaws.{shown}
 use Rattle.json_rules.specs.declared.Place.{Place}
 use Rattle.json_rules.specs.declared.Member.the-variants.{Refused}
 use Rattle.json_rules.specs.Rules.{longest, deepest, NameTwice, DerivedOnce, count, NoMember, grammarRules, headerRules, memberRules}
-use Rattle.json_rules.specs.Answers.{membersIn, twiceIn, grammarTests, headerTests, checked, missing, memberTests, place, shownBy, answerFor, unlessRefused, memberOf, numberOf, memberNumber, Read, with-kind, valuesOf}
+use Rattle.json_rules.specs.Answers.{place, shownBy, answerFor, numberOf, with-kind, valuesOf}
+use Rattle.json_rules.specs.Tests.{membersIn, twiceIn, grammarTests, headerTests, checked, missing, memberTests, unlessRefused, memberOf, memberNumber, Read}
 
 -- THE TESTS decide them, each where no earlier one holds
 

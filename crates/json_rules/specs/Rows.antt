@@ -16,7 +16,8 @@ use Rattle.json_grammar_rules.specs.Unique.{one-reading}
 use Rattle.json_rules.specs.declared.Member.{Member}
 use Rattle.json_rules.specs.declared.Member.the-variants.{Refused, Array}
 use Rattle.json_rules.specs.declared.Member.the-variants.{String as Text}
-use Rattle.json_rules.specs.Answers.{headerTests, checked, place, answerFor, unlessRefused, memberOf}
+use Rattle.json_rules.specs.Answers.{place, answerFor}
+use Rattle.json_rules.specs.Tests.{headerTests, checked, unlessRefused, memberOf}
 use Rattle.json_rules.specs.Promises.{header-first}
 
 -- what member k of a header answers

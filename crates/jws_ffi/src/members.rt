@@ -4,7 +4,8 @@ use json::Member;
 use json::Place;
 ghost use mathlib.Core.Path.{_≡_};
 ghost use mathlib.Core.List.{[], _∷_};
-ghost use Rattle.json_rules.specs.Answers.{memberOf, numberOf};
+ghost use Rattle.json_rules.specs.Answers.{numberOf};
+ghost use Rattle.json_rules.specs.Tests.{memberOf};
 ghost use Rattle.jws_ffi.specs.Words.{memberWords};
 
 pub struct Answer {

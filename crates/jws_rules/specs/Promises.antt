@@ -15,7 +15,7 @@ use Rattle.common.specs.Buffer.{filled}
 use Rattle.common.specs.First.{NoneOf, condition, earlier, numbers, among}
 use Rattle.common.specs.FirstLaws.{first-stands, none-stands, in-range, not-on, earlier-next, _also_}
 use Rattle.json_rules.specs.Rules.{longest, headerRules}
-use Rattle.json_rules.specs.Answers.{memberNumber, Read}
+use Rattle.json_rules.specs.Tests.{memberNumber, Read}
 use Rattle.json_rules.specs.Promises.{member-first}
 use Rattle.json_rules.specs.Demand3.{read-exactly}
 use Rattle.keytable_rules.specs.Table.{Wellformed}

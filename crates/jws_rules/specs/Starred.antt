@@ -13,7 +13,8 @@ use Rattle.json_grammar_rules.specs.Bytes.{within, isWs, isDigit, isDigit19, is
 use Rattle.json_grammar_rules.specs.Value.{among, repeated, names, twice, plain, plainMembers}
 use Rattle.json_grammar_rules.specs.Grammar.{Derivation, bytes, readingOf}
 use Rattle.json_grammar_rules.specs.Reader.{read, readValue, readChars, readChar, charLead, escapeLeadOf, isUnescaped1, pastNumber, word, valueLead, skip}
-use Rattle.json_rules.specs.Answers.{lengthTest, place}
+use Rattle.json_rules.specs.Answers.{place}
+use Rattle.json_rules.specs.Tests.{lengthTest}
 use Rattle.json_rules.specs.declared.Member.the-variants.{Refused as RefusedMember, Array, String as Text}
 use Rattle.json_rules.specs.Rows.{answers, rows}
 use Rattle.keytable_rules.specs.Key.{Key}

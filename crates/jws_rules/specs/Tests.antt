@@ -8,7 +8,7 @@ use Rattle.common.specs.First.{Test, _when_, first, settle}
 use Rattle.common.specs.Same.{same}
 use Rattle.base64url_rules.specs.Base64url.{decode, strict}
 use Rattle.hmac.specs.Hmac.{HMACSHA256}
-use Rattle.json_rules.specs.Answers.{lengthTest}
+use Rattle.json_rules.specs.Tests.{lengthTest}
 use Rattle.keytable_rules.specs.Table.{tableTest, keys}
 use Rattle.jose_rules.specs.declared.Choice.{Choice}
 use Rattle.jose_rules.specs.Rules.{termsOf}

@@ -4,7 +4,7 @@ use native.Mathlib.Omega.{arith}
 use denote.Ref.{now}
 use Rattle.common.specs.First.{first}
 use Rattle.json_rules.specs.Rules.{deepest}
-use Rattle.json_rules.specs.Answers.{grammarTests}
+use Rattle.json_rules.specs.Tests.{grammarTests}
 use Rattle.json_members.specs.Members.{MembersFrom}
 use Rattle.json_members.specs.StepLaws.{top-members}
 use Rattle.keytable_rules.specs.Table.{keys}

@@ -35,7 +35,7 @@ use denote.Triple.Spec.{Meets, tripleOf}
 use denote.Triple.Table.{entered, cited}
 use denote.Triple.Walked.{says, Stays, walkOf, Walks, ends-at, walked, walk-meets}
 use denote.Triple.Clauses.{ensured, lasts}
-use Rattle.json_rules.specs.Answers.{memberOf}
+use Rattle.json_rules.specs.Tests.{memberOf}
 use Rattle.json_header_reader.specs.declared.HeaderReader.{HeaderReader}
 use Rattle.json_rules.specs.declared.Member.{Member}
 use Rattle.json_header_reader.proofs.HeaderReader.Laws as T′

@@ -35,7 +35,7 @@ use denote.Triple.Table.{entered, cited}
 use denote.Triple.Walked.{says, Stays, stay-none, stay-none-slice, walkOf, goes-none, goes-none-slice, Walks, ends-at, walked, walk-meets}
 use denote.Exit.{yes}
 use denote.Triple.Clauses.{ensured, lasts}
-use Rattle.json_rules.specs.Answers.{memberOf}
+use Rattle.json_rules.specs.Tests.{memberOf}
 use Rattle.json_rules.specs.declared.Member.{Member}
 use Rattle.json_rules.proofs.Member as S
 use Rattle.json_rules.proofs.Member.Laws as S′
