@@ -193,14 +193,14 @@ module _ (h p T : List ℕ) (room : ℕ) (fits : finishedLength h p ≤ room) wh
 in-order-read : {h : List ℕ} {q : Terms} {c : Choice} → length h ≤ longest → HeaderChooses h q c → Read h
 in-order-read {h} l w = read-exactly h .1 (l, (w .derivation, w .derives, w .shallow, w .once))
 
--- "Verifying and signing answer 0 only for a header that is read ..
+-- "To a header that isn't read it gives one refusal of 5, 7 and 8, the same for every k; verifying and signing give that one too unless a rule before it refuses, and 0 only for a header that is read": ..
 pub verify-reads : (q : VerifyCall) → verifyAnswer q ≡ 0 → Read (headerOf (q .token))
 verify-reads q e = let a = accepted-only q e in in-order-read (a .header-short) (a .header)
 
 pub sign-reads : (q : SignCall) → signAnswer q ≡ 0 → Read (q .header)
 sign-reads q e = let x = sign-header q e in in-order-read (x .0) (x .1)
 
--- .. and, where no earlier rule refuses, give 5, 7 or 8 as the member reader does", whichever member k it is asked for.
+-- .. and 5, 7 and 8 are those of the member call, whichever member k it is asked for.
 module _ (q : VerifyCall) (k : ℕ) where
   pub verify-5-as-member : NoneOf (earlier (verifying q) 5) → (verifyAnswer q ≡ 5) ↔ (memberNumber (headerOf (q .token)) k ≡ 5)
   verify-5-as-member n =

@@ -1,13 +1,12 @@
 -- The promises speak of something more: a token that names the second key of a table and carries a format by `crit` is accepted; with another signature of 32 bytes it is
 -- refused. No hash is computed.
 use mathlib.Core.Path.{_≡_, refl, sym, ap, ap₂, _∙_}
-use mathlib.Core.Bool.{Bool, true, false}
 use mathlib.Core.List.{List, [], _∷_, _++_}
 use Prim.Native.Nat.{ℕ, zero, suc, _≤_, _<_}
 use native.Mathlib.Omega.{arith}
 use lib.ListN.{length, replicate, getD}
 use Rattle.common.specs.Bytes.{Bytes, none, more}
-use Rattle.common.specs.First.{NoneOf, earlier, first}
+use Rattle.common.specs.First.{earlier, first}
 use Rattle.common.specs.FirstLaws.{none-stands, none-append}
 use Rattle.common.specs.Same.{same}
 use Rattle.common.specs.Ascii.{ascii}
@@ -19,18 +18,17 @@ use Rattle.keytable_rules.specs.Key.{Key, key}
 use Rattle.keytable_rules.specs.Table.{Wellformed, keys, badTable, below, listed}
 use Rattle.keytable_rules.specs.TableLaws.{wellformed}
 use Rattle.keytable_rules.specs.Examples.{head, entry}
-use Rattle.jose_rules.specs.declared.Choice.{Choice}
 use Rattle.jose_rules.specs.Rules.{termsOf}
 use Rattle.jose_rules.specs.Header.{joseRules, HeaderChooses}
 use Rattle.jose_rules.specs.HeaderTests.{joseTests, headerChoice}
 use Rattle.jose_rules.specs.HeaderExamples.{pair, header, its-choice, second-key}
-use Rattle.jose_rules.specs.HeaderLaws.{jose-agree, header-chooses, header-chooses-one, header-bytes, header-rules}
+use Rattle.jose_rules.specs.HeaderLaws.{jose-agree, header-chooses, header-bytes, header-rules}
 use Rattle.jose_rules.specs.Promises.{distinct}
-use Rattle.jws_rules.specs.Calls.{VerifyCall, verifyOf}
+use Rattle.jws_rules.specs.Calls.{verifyOf}
 use Rattle.jws_rules.specs.Segments.{_dot_}
 use Rattle.jws_rules.specs.SegmentLaws.{length-dot}
-use Rattle.jws_rules.specs.Token.{signingInput, macOf, tokenOf, finishedLength, headerOf, sentInput, secretOf}
-use Rattle.jws_rules.specs.TokenLaws.{length-token, mac-bytes, Parts, parts}
+use Rattle.jws_rules.specs.Token.{signingInput, macOf, tokenOf, finishedLength, headerOf, secretOf}
+use Rattle.jws_rules.specs.TokenLaws.{length-token, mac-bytes, parts}
 use Rattle.jws_rules.specs.Outcomes.{VerifyOutcome, recordOf, accepted}
 use Rattle.jws_rules.specs.Rules.{verifying, Accepted}
 use Rattle.jws_rules.specs.Tests.{tokenChoice, verified, verifyAnswer}

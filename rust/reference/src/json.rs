@@ -37,7 +37,7 @@ pub enum Kind {
     Object = 7,
 }
 
-/// Specification, "The header grammar": a reading is the tree of such values with members in order.
+/// Specification, "Header": a reading is a tree, strings as code points, numbers as they are spelled, members in their order.
 #[derive(Clone, Debug, PartialEq, Eq)]
 pub enum Value<'h> {
     /// The code points after the escapes are resolved.
@@ -332,7 +332,7 @@ impl<'h> Reader<'h> {
         }
     }
 
-    /// Specification: a high surrogate is followed directly by a low one, and a low one never stands alone.
+    /// Specification, "Header": the first half of a surrogate pair needs its second half right behind it, and the second its first.
     fn unicode_escape(&mut self) -> Option<char> {
         let unit = self.four_digits()?;
         if !(0xD800..=0xDBFF).contains(&unit) {

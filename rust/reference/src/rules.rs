@@ -119,7 +119,7 @@ fn integer(member: &Member) -> Option<i64> {
     }
 }
 
-/// The key whose id is the UTF-8 of `kid`; with no `kid`, the only key of a one-key table.
+/// The key whose id is the UTF-8 of `kid`; without `kid`, the key of a table that has just one.
 fn find(keys: &[Key], kid: Option<&str>) -> Option<usize> {
     match kid {
         Some(kid) => keys.iter().position(|key| key.id == kid.as_bytes()),
