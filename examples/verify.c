@@ -1,12 +1,16 @@
 /*
- * Verifies the token of RFC 7515 A.1 with its key alone in a table, prints what it holds, and signs it again.
+ * Verifies the token of RFC 7515 A.1 with its key alone in a table, prints what it holds, and signs it again. Each call runs on a stack
+ * of its own, which is cleared afterwards: what a call leaves there may be the MAC and the secret.
  *
  *     cc -std=c99 -Wall -Wextra -Werror -Iinclude examples/verify.c target/staticlib/libjws_ffi.a -o verify
+ *     cc -std=c99 examples/verify.c $(pkg-config --cflags --libs jws) -o verify       after make install
  */
+#define _XOPEN_SOURCE 700 /* ucontext.h */
 #include "jws.h"
 
 #include <stdio.h>
 #include <string.h>
+#include <ucontext.h>
 
 /* One key: its id "RFC 7515 A.1", its secret of 64 bytes, HS256 and format 1 allowed. */
 static const uint8_t table[96] = {
@@ -22,34 +26,84 @@ static const uint8_t table[96] = {
 static const char token[] = "eyJ0eXAiOiJKV1QiLA0KICJhbGciOiJIUzI1NiJ9"
                             ".eyJpc3MiOiJqb2UiLA0KICJleHAiOjEzMDA4MTkzODAsDQogImh0dHA6Ly9leGFtcGxlLmNvbS9pc19yb290Ijp0cnVlfQ"
                             ".dBjftJeZ4CVP-mB92K27uhbUJU1p1r_wW1gFWFOEjXk";
+enum { TOKEN_LENGTH = sizeof token - 1 };
+
+/* What the calls write. */
+static uint8_t header[JWS_HEADER_MAX], payload[JWS_PAYLOAD_MAX], again[JWS_TOKEN_MAX];
+static uint64_t record[JWS_RECORD_WORDS], length;
+static uint8_t answer;
+
+static void verify(void)
+{
+    answer = jws_verify((const uint8_t *)token, TOKEN_LENGTH, table, sizeof table, header, sizeof header, payload,
+                        sizeof payload, record);
+}
+
+static void sign(void)
+{
+    answer = jws_sign(header, record[JWS_RECORD_HEADER_LENGTH], payload, jws_payload(record, sizeof payload), table,
+                      sizeof table, again, sizeof again, &length);
+}
+
+/*
+ * The calls' own stack. On a node this is the stack of a task that makes these calls and no others, and whoever waits for it clears it.
+ * By its object code a call takes at most 5,320 bytes; the rest is for memset and memcpy, and for signals or interrupts.
+ */
+enum { CALL_STACK = 5320 + 8192 };
+static uint8_t call_stack[CALL_STACK];
+static ucontext_t here, there;
+
+/* Runs a call on that stack and clears it. Returns how many bytes were found there that weren't 0, before clearing and after. */
+static void on_its_own_stack(void (*call)(void), size_t left[2])
+{
+    volatile uint8_t *byte = call_stack; /* volatile: no store may be left out, though nothing of the call reads it again */
+    size_t i;
+
+    getcontext(&there);
+    there.uc_stack.ss_sp = call_stack;
+    there.uc_stack.ss_size = sizeof call_stack;
+    there.uc_link = &here;
+    makecontext(&there, call, 0);
+    swapcontext(&here, &there);
+
+    left[0] = left[1] = 0;
+    for (i = 0; i < CALL_STACK; i++) {
+        left[0] += byte[i] != 0;
+        byte[i] = 0;
+    }
+    for (i = 0; i < CALL_STACK; i++) {
+        left[1] += byte[i] != 0;
+    }
+}
 
 /* "name: text" */
-static void print(const char *name, const uint8_t *text, uint64_t length)
+static void print(const char *name, const uint8_t *text, uint64_t count)
 {
-    printf("%s: %.*s\n", name, (int)length, (const char *)text);
+    printf("%s: %.*s\n", name, (int)count, (const char *)text);
 }
 
 int main(void)
 {
-    uint8_t header[JWS_HEADER_MAX], payload[JWS_TOKEN_MAX / 4 * 3], again[JWS_TOKEN_MAX];
-    uint64_t record[JWS_RECORD_WORDS], length;
-    const size_t token_length = sizeof token - 1;
-    uint8_t answer;
+    size_t left[2];
 
-    answer = jws_verify((const uint8_t *)token, token_length, table, sizeof table, header, sizeof header, payload,
-                        sizeof payload, record);
+    if (jws_boundary() != JWS_BOUNDARY) {
+        printf("jws.h and the archive are of different versions\n");
+        return 1;
+    }
+
+    on_its_own_stack(verify, left);
     printf("answer: %d\n", answer);
-    if (answer != JWS_DONE) {
+    printf("stack: %lu bytes left by the call, %lu after clearing\n", (unsigned long)left[0], (unsigned long)left[1]);
+    if (answer != JWS_DONE || left[1] != 0) {
         return 1;
     }
     printf("key: %lu\n", (unsigned long)record[JWS_RECORD_KEY_INDEX]);
     printf("format: %lu\n", (unsigned long)record[JWS_RECORD_FORMAT]);
     print("typ", header + record[JWS_RECORD_TYP_START], record[JWS_RECORD_TYP_LENGTH]);
-    print("payload", payload, record[JWS_RECORD_PAYLOAD_LENGTH]);
+    print("payload", payload, jws_payload(record, sizeof payload));
 
-    answer = jws_sign(header, record[JWS_RECORD_HEADER_LENGTH], payload, record[JWS_RECORD_PAYLOAD_LENGTH], table,
-                      sizeof table, again, sizeof again, &length);
-    if (answer != JWS_DONE || length != token_length || memcmp(again, token, token_length) != 0) {
+    on_its_own_stack(sign, left);
+    if (answer != JWS_DONE || left[1] != 0 || length != TOKEN_LENGTH || memcmp(again, token, TOKEN_LENGTH) != 0) {
         printf("signed again: other bytes\n");
         return 1;
     }
