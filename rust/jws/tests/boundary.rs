@@ -1,4 +1,4 @@
-//! `include/jws.h` from C and C++, and the stack that a call takes. Needs the C compiler that cargo links with.
+//! `include/jws.h` from C and C++, the stack that a call takes, and what it leaves there. Needs the C compiler that cargo links with.
 
 use std::io::Write;
 use std::path::{Path, PathBuf};
@@ -53,10 +53,10 @@ fn calls_from_c_and_cpp() {
     assert!(ran > 0);
 }
 
-/// The answer of a call, and the bytes of stack that it takes: the call and its argument as `stack.c` names them, and its input.
-fn stack_of(program: &Path, call: &str, argument: &str, input: &[u8]) -> (u8, usize) {
+/// The numbers that a program prints, by its words and its input.
+fn numbers(program: &Path, words: &[&str], input: &[u8]) -> Vec<usize> {
     let mut run = Command::new(program)
-        .args([call, argument])
+        .args(words)
         .stdin(Stdio::piped())
         .stdout(Stdio::piped())
         .spawn()
@@ -64,8 +64,13 @@ fn stack_of(program: &Path, call: &str, argument: &str, input: &[u8]) -> (u8, us
     run.stdin.take().unwrap().write_all(input).unwrap();
     let output = run.wait_with_output().unwrap();
     let said = String::from_utf8_lossy(&output.stdout);
-    let (answer, bytes) = said.trim().split_once(' ').unwrap();
-    (answer.parse().unwrap(), bytes.parse().unwrap())
+    said.split_whitespace().map(|word| word.parse().unwrap()).collect()
+}
+
+/// The answer of a call, and the bytes of stack that it takes: the call and its argument as `stack.c` names them, and its input.
+fn stack_of(program: &Path, call: &str, argument: &str, input: &[u8]) -> (u8, usize) {
+    let said = numbers(program, &[call, argument], input);
+    (said[0].try_into().unwrap(), said[1])
 }
 
 /// Headers whose last member nests seven deep, of arrays and objects, with values of several kinds inside; and eight deep, which is
@@ -124,4 +129,104 @@ fn stack_of_a_call() {
     let shallow = stack_of(&program, "member", "0", b"{}").1;
     println!("stack of a call on the deepest headers: member {reading} bytes ({shallow} for {{}}), verify {verifying}, sign {signing}");
     assert!(reading <= 4_096 && verifying <= 8_192 && signing <= 8_192);
+}
+
+/// What a call computes from a secret of at most 64 bytes, each with its name: whoever has one of them can sign, or has this token's MAC.
+fn secrets_of(secret: &[u8], signed: &[u8]) -> Vec<(&'static str, Vec<u8>)> {
+    // SHA-256 reads the bytes of a block by fours, the highest first; in memory words stand with the lowest first.
+    let words = |block: &[u8]| {
+        block
+            .chunks_exact(4)
+            .flat_map(|four| four.iter().rev().copied())
+            .collect::<Vec<_>>()
+    };
+    let absorbed = |block: &[u8]| {
+        let mut hash = reference::sha256::Sha256::new();
+        hash.update(block);
+        hash.state()
+            .iter()
+            .flat_map(|word| word.to_le_bytes())
+            .collect::<Vec<_>>()
+    };
+    let pad = |byte: u8| {
+        let mut block = [byte; 64];
+        block.iter_mut().zip(secret).for_each(|(pad, key)| *pad ^= key);
+        block
+    };
+    let (inner, outer) = (pad(0x36), pad(0x5C));
+    vec![
+        ("the MAC", reference::hmac::hmac_sha256(secret, signed).to_vec()),
+        ("the secret", secret.to_vec()),
+        ("the secret xor 0x36", inner.to_vec()),
+        ("the secret xor 0x5c", outer.to_vec()),
+        ("the secret xor 0x36 as words", words(&inner)),
+        ("the secret xor 0x5c as words", words(&outer)),
+        ("SHA-256 after the inner pad", absorbed(&inner)),
+        ("SHA-256 after the outer pad", absorbed(&outer)),
+    ]
+}
+
+/// So many bytes in a row may stand on a stack by chance.
+const CHANCE: usize = 7;
+
+/// Runs `residue.c` and prints what it finds: the lengths of the runs after the call. After clearing there is nothing.
+fn residue_of(
+    program: &Path,
+    call: &str,
+    table: &str,
+    input: &[u8],
+    expected: u8,
+    secrets: &[(&str, Vec<u8>)],
+) -> Vec<usize> {
+    let hex = |bytes: &[u8]| bytes.iter().map(|byte| format!("{byte:02x}")).collect::<String>();
+    let left = [0xC1, 0xC2, 0xC3, 0xC4, 0xC5, 0xC6, 0xC7, 0xC8];
+    let looked_for: Vec<String> = [&left[..]]
+        .into_iter()
+        .chain(secrets.iter().map(|(_, bytes)| &bytes[..]))
+        .map(hex)
+        .collect();
+    let mut words = vec![call, table];
+    words.extend(looked_for.iter().map(String::as_str));
+    let said = numbers(program, &words, input);
+    assert_eq!(said[0], usize::from(expected), "{call}");
+    let runs: Vec<(usize, usize)> = said[1..].chunks_exact(2).map(|pair| (pair[0], pair[1])).collect();
+    assert_eq!(runs.len(), 1 + secrets.len());
+    assert_eq!(runs[0].0, left.len(), "the search finds what the caller left");
+    for ((name, bytes), (run, _)) in secrets.iter().zip(&runs[1..]) {
+        println!("{call} answers {expected}: {run} of {} bytes of {name}", bytes.len());
+    }
+    assert!(runs.iter().all(|&(_, cleared)| cleared <= CHANCE), "{call}: {runs:?}");
+    runs[1..].iter().map(|&(run, _)| run).collect()
+}
+
+/// A call refused before rule 15 leaves nothing of the secret. Any other may, and clearing its stack takes that away.
+#[test]
+fn residue_of_a_call() {
+    let program = compiled("cc", &["-x", "c", "-Wl,-z,now"], "residue.c").unwrap();
+    let table = format!("{HERE}/../../crates/verify_token/data/table.bin");
+    let keys = std::fs::read(&table).unwrap();
+    let header = r#"{"alg":"HS256"}"#;
+    let token = token_of(header, b"{\"tank\":2}", &keys[32..]);
+    let end = token.iter().rposition(|&byte| byte == b'.').unwrap();
+    let secrets = secrets_of(&keys[32..], &token[..end]);
+
+    let mut forged = token.clone();
+    forged[end + 1] = if forged[end + 1] == b'A' { b'B' } else { b'A' };
+    let mut faulty = token.clone();
+    faulty[end + 1] = b'=';
+    residue_of(&program, "verify", &table, &forged, 15, &secrets);
+    residue_of(&program, "verify", &table, &token, 0, &secrets);
+    let runs = residue_of(&program, "verify", &table, &faulty, 4, &secrets);
+    assert!(runs.iter().all(|&run| run <= CHANCE), "{runs:?}");
+
+    let empty = token_of(header, b"", &keys[32..]);
+    let end = empty.iter().rposition(|&byte| byte == b'.').unwrap();
+    residue_of(
+        &program,
+        "sign",
+        &table,
+        header.as_bytes(),
+        0,
+        &secrets_of(&keys[32..], &empty[..end]),
+    );
 }

@@ -73,6 +73,11 @@ impl Sha256 {
         self.filled = rest.len();
     }
 
+    /// The hash value after the whole blocks so far.
+    pub fn state(&self) -> [u32; 8] {
+        self.state
+    }
+
     /// Section 5.1.1: a bit 1, zeros, and the length in bits as 64 bits fill the last block.
     pub fn finish(mut self) -> [u8; DIGEST_LEN] {
         let bits = self.length * 8;
