@@ -4,7 +4,6 @@
 //! failing case is found again by `.nth(i)`.
 
 #![forbid(unsafe_code)]
-#![warn(missing_docs)]
 
 pub mod bytes;
 pub mod call;

@@ -5,7 +5,6 @@
 //! key table; [`rules`] gives the answers 9 to 14; [`token`] verifies and signs.
 
 #![forbid(unsafe_code)]
-#![warn(missing_docs)]
 
 pub mod answer;
 pub mod base64url;

@@ -182,7 +182,7 @@ mod tests {
     /// value those of the square roots of the first 8 (section 5.3.3).
     #[test]
     fn constants_from_their_definition() {
-        let is_prime = |n: &u128| !(2..*n).any(|d| n.is_multiple_of(d));
+        let is_prime = |n: &u128| !(2..*n).any(|d| n % d == 0);
         let primes: Vec<u128> = (2..).filter(is_prime).take(64).collect();
         // The greatest r with r^n <= p * 2^(32n), that is floor(2^32 * nth root of p).
         let root = |p: u128, n: u32| {

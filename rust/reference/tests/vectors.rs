@@ -26,7 +26,7 @@ fn bytes(hex: &str) -> Vec<u8> {
     if hex == "-" {
         return Vec::new();
     }
-    assert!(hex.is_ascii() && hex.len().is_multiple_of(2));
+    assert!(hex.is_ascii() && hex.len() % 2 == 0);
     (0..hex.len())
         .step_by(2)
         .map(|at| u8::from_str_radix(&hex[at..at + 2], 16).expect("hexadecimal"))

@@ -1,7 +1,6 @@
 //! Least times of calls, for the benchmarks: the proved code beside the reference, in one run.
 
 #![forbid(unsafe_code)]
-#![warn(missing_docs)]
 
 use std::hint::black_box;
 use std::time::Instant;
