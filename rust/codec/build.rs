@@ -1,10 +1,12 @@
-//! Links the archive that `rt staticlib codec_ffi` writes.
+//! Links the archive that `rt staticlib codec_ffi` writes, or the one in the folder that `CODEC_ARCHIVE_DIR` names (an absolute path).
 
-use std::path::Path;
+#[path = "../tools/archive.rs"]
+mod archive;
 
 fn main() {
-    let folder = Path::new(env!("CARGO_MANIFEST_DIR")).join("../../target/staticlib");
-    println!("cargo:rustc-link-search=native={}", folder.display());
+    let archive = archive::archive("codec_ffi", &["libcodec_ffi.a"], "CODEC_ARCHIVE_DIR");
+    if let Some(folder) = archive.parent() {
+        println!("cargo:rustc-link-search=native={}", folder.display());
+    }
     println!("cargo:rustc-link-lib=static=codec_ffi");
-    println!("cargo:rerun-if-changed={}", folder.join("libcodec_ffi.a").display());
 }
