@@ -1,5 +1,7 @@
 //! Key tables, valid and damaged.
 
+use reference::limits::TABLE_MAX;
+
 use crate::bytes;
 use crate::rng::Rng;
 
@@ -34,8 +36,8 @@ pub fn valid(rng: &mut Rng) -> Vec<u8> {
         let length = table.len() + spare;
         grow(rng, &mut table, length);
     }
-    if rng.one_in(60) && table.len() < 8_192 {
-        grow(rng, &mut table, 8_192);
+    if rng.one_in(60) && table.len() < TABLE_MAX {
+        grow(rng, &mut table, TABLE_MAX);
     }
     table
 }
@@ -210,7 +212,7 @@ pub fn damage(rng: &mut Rng, table: &mut Vec<u8>) {
             }
         }
         11 => {
-            let length = rng.pick(&[8_191, 8_192, 8_193, 9_000]);
+            let length = rng.pick(&[TABLE_MAX - 1, TABLE_MAX, TABLE_MAX + 1, 9_000]);
             grow(rng, table, length);
         }
         12 => drop(table.pop()),

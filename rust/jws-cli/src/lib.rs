@@ -6,9 +6,9 @@
 //! be told in words; its verdict is held against the library's each time.
 
 #![forbid(unsafe_code)]
-#![warn(missing_docs)]
 
 pub mod answer;
+pub mod boundary;
 pub mod encoding;
 pub mod files;
 pub mod keys_file;

@@ -4,6 +4,7 @@ use std::collections::BTreeMap;
 use std::ffi::{OsStr, OsString};
 
 use crate::answer::{Answer, Failure};
+use crate::boundary;
 
 /// A command with subcommands: their names and what their `--help` says.
 pub struct Command {
@@ -76,8 +77,10 @@ impl Options {
 }
 
 impl Command {
-    /// Runs the subcommand that the arguments name. A wrong argument's message ends with where to look.
+    /// Runs the subcommand that the arguments name, if the linked archive is the one that this was written for. A wrong argument's message
+    /// ends with where to look.
     pub fn run(&self, arguments: impl Iterator<Item = OsString>) -> Result<Answer, Failure> {
+        boundary::same(jws::BOUNDARY, jws::boundary())?;
         let mut arguments = arguments;
         let Some(first) = arguments.next() else {
             return Err(Failure::Arguments(format!(

@@ -8,6 +8,10 @@ use crate::encoding;
 const HINT: &str =
     "Hint: the file ends in a newline, and that belongs to the token; write the file without it (printf, not echo).";
 
+/// The sentence of a refusal that these commands don't know.
+pub const UNKNOWN: &str =
+    "These commands don't know this answer: build them anew, with the archive of the same version.";
+
 /// One sentence on what a refusal means and what to look at.
 pub fn sentence(refusal: Refusal) -> &'static str {
     match refusal {
@@ -67,6 +71,7 @@ pub fn sentence(refusal: Refusal) -> &'static str {
              have the same secret, and whether the token was changed after it was signed."
         }
         Refusal::NoSuchMember => "The header has fewer members: they are counted from 0.",
+        _ => UNKNOWN,
     }
 }
 

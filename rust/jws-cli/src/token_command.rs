@@ -3,7 +3,7 @@
 use std::ffi::{OsStr, OsString};
 use std::ops::Range;
 
-use jws::{Kind, Member, Record, Refusal};
+use jws::{Kind, Member, Record, Refusal, HEADER_MAX, PAYLOAD_MAX, TOKEN_MAX};
 
 use crate::answer::{Answer, Failure};
 use crate::encoding;
@@ -124,12 +124,6 @@ Example:
   member 1: \"fmt\" at 16..19, number 2 at 21..22
 ";
 
-/// A token has at most this many bytes.
-const TOKEN_MAX: usize = 16_384;
-/// A header has at most this many bytes.
-const HEADER_MAX: usize = 1_024;
-/// No payload of a token is longer.
-const PAYLOAD_MAX: usize = TOKEN_MAX / 4 * 3;
 /// The whole table of no keys.
 const NO_KEYS: [u8; 8] = [0, 1, 0, 0, 0, 0, 0, 8];
 
@@ -183,14 +177,9 @@ fn verify(options: &Options) -> Result<Answer, Failure> {
     let (mut header, mut buffer) = ([0; HEADER_MAX], vec![0; room.min(PAYLOAD_MAX)]);
     let record = match jws::verify(&token, &files::read(table)?, &mut header, &mut buffer) {
         Ok(record) => record,
-        Err(refusal) => {
-            return Ok(Answer::refused(refusals::told(
-                refusal,
-                &refusals::token_details(refusal, &token),
-            )))
-        }
+        Err(refused) => return Ok(refused_token(refused.refusal, &token)),
     };
-    let (report, payload) = (accepted(&record, &header), jws::payload(&record, &buffer));
+    let (report, payload) = (accepted(&record, &header), record.payload(&buffer));
     match options.value("--payload-out") {
         None => Ok(Answer::done(report)),
         Some(out) if out == "-" => Ok(Answer {
@@ -232,23 +221,28 @@ fn members(options: &Options) -> Result<Answer, Failure> {
     let token = files::read(path)?;
     match header_of(&token) {
         Ok(header) => Ok(shown(&header)),
-        Err(refusal) => Ok(Answer::refused(refusals::told(
-            refusal,
-            &refusals::token_details(refusal, &token),
-        ))),
+        Err(refusal) => Ok(refused_token(refusal, &token)),
     }
 }
 
+/// A token's refusal, with what its own bytes show.
+fn refused_token(refusal: Refusal, token: &[u8]) -> Answer {
+    Answer::refused(refusals::told(refusal, &refusals::token_details(refusal, token)))
+}
+
 /// A token's header, if it is a token. The proved library says so by the answer that it gives with a table of no keys: a token
-/// whose header is read is refused with 9 or more.
+/// whose header is read is refused for its known members or for want of a key.
 fn header_of(token: &[u8]) -> Result<Vec<u8>, Refusal> {
     let (mut header, mut payload) = ([0; HEADER_MAX], [0; PAYLOAD_MAX]);
-    match jws::verify(token, &NO_KEYS, &mut header, &mut payload) {
-        Err(refusal) if refusal.number() < Refusal::WrongKind.number() => Err(refusal),
-        _ => {
+    let refusal = jws::verify(token, &NO_KEYS, &mut header, &mut payload)
+        .err()
+        .map(Refusal::from);
+    match refusal {
+        None | Some(Refusal::WrongKind | Refusal::Critical | Refusal::WrongAlg | Refusal::NoKey) => {
             let segment = token.split(|&byte| byte == b'.').next().unwrap_or(&[]);
             encoding::from_base64url(segment).map_err(|_| Refusal::NotBase64url)
         }
+        Some(refusal) => Err(refusal),
     }
 }
 
@@ -295,5 +289,6 @@ fn kind(kind: Kind) -> &'static str {
         Kind::Null => "null",
         Kind::Array => "array",
         Kind::Object => "object",
+        Kind::Unknown(_) => "of no known kind",
     }
 }

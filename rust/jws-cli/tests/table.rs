@@ -7,6 +7,7 @@ use std::ops::Range;
 use case_generator::rng::Rng;
 use common::{published, Folder, Ran, PUBLISHED_SECRET, TABLE};
 use jws_cli::encoding::{base64url, hex, id};
+use jws_cli::table::TABLE_MAX;
 
 /// Generated tables of each test that runs commands over them.
 const TABLES: usize = 150;
@@ -197,7 +198,11 @@ fn every_fault_told() {
         let show = folder.run(TABLE, &["show", "table.bin"]);
         assert_eq!((show.status, show.text(), show.err.as_str()), (1, "", check.text()));
     }
-    for (length, expected) in [(0, "the table has 0 bytes"), (7, "7 bytes"), (8_193, "8193 bytes")] {
+    for (length, expected) in [
+        (0, "the table has 0 bytes"),
+        (7, "7 bytes"),
+        (TABLE_MAX + 1, "8193 bytes"),
+    ] {
         assert!(!checked(&folder, &vec![0; length]));
         let check = folder.run(TABLE, &["check", "table.bin"]);
         assert!(

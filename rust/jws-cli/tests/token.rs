@@ -3,6 +3,7 @@
 mod common;
 
 use common::{published, Folder, Ran, TOKEN};
+use jws::{HEADER_MAX, PAYLOAD_MAX, TOKEN_MAX};
 use jws_cli::encoding::base64url;
 use jws_cli::table::{lay_out, Key};
 
@@ -139,7 +140,7 @@ fn every_refusal_of_verify() {
         seen.push(expected);
         ran.err
     };
-    assert!(refused("table.bin", &[b'A'; 16_385], &[], 1).contains("Here: the token has 16385 bytes."));
+    assert!(refused("table.bin", &[b'A'; TOKEN_MAX + 1], &[], 1).contains("Here: the token has 16385 bytes."));
     refused("bad.bin", &token, &[], 2);
     assert!(refused("table.bin", b"", &[], 3).contains("Here: the token has 0 periods."));
     assert!(refused("table.bin", b"a.b.c.d", &[], 3).contains("Here: the token has 3 periods."));
@@ -149,8 +150,8 @@ fn every_refusal_of_verify() {
         "{padded}"
     );
     assert!(!padded.contains("Hint"));
-    refused("three.bin", &unsigned(&long_header(1_025)), &[], 5);
-    refused("three.bin", &unsigned(&long_header(1_024)), &[], 15);
+    refused("three.bin", &unsigned(&long_header(HEADER_MAX + 1)), &[], 5);
+    refused("three.bin", &unsigned(&long_header(HEADER_MAX)), &[], 15);
     refused("table.bin", &token, &["--room", "69"], 6);
     refused("table.bin", b"..", &[], 7);
     for (header, number) in WRONG_HEADERS {
@@ -182,7 +183,7 @@ fn every_refusal_of_sign() {
     };
     let plain = br#"{"alg":"HS256"}"#;
     assert_eq!(refused("bad.bin", plain, b"", &[]), 2);
-    assert_eq!(refused("three.bin", &long_header(1_025), b"", &[]), 5);
+    assert_eq!(refused("three.bin", &long_header(HEADER_MAX + 1), b"", &[]), 5);
     for (header, number) in WRONG_HEADERS {
         assert_eq!(refused("three.bin", header.as_bytes(), b"pp", &[]), number, "{header}");
     }
@@ -194,7 +195,7 @@ fn every_refusal_of_sign() {
     );
     assert_eq!(
         sign(&folder, "table.bin", plain, &[b'p'; 12_239], &[]).done().len(),
-        16_384
+        TOKEN_MAX
     );
 }
 
@@ -242,7 +243,7 @@ fn members_in_words() {
          member 6: \"{\" at 70..71, object { } at 73..76\n"
     );
     assert_eq!(folder.run_on(TOKEN, &["members", "-"], b" {} ").done(), "no members\n");
-    for (header, number) in [(&[b' '; 1_025][..], 5), (b"{", 7), (br#"{"a":1,"a":1}"#, 8)] {
+    for (header, number) in [(&[b' '; HEADER_MAX + 1][..], 5), (b"{", 7), (br#"{"a":1,"a":1}"#, 8)] {
         assert_eq!(folder.run_on(TOKEN, &["members", "-"], header).refused(), number);
         assert_eq!(
             folder
@@ -251,7 +252,12 @@ fn members_in_words() {
             number
         );
     }
-    for (token, number) in [(&[b'A'; 16_385][..], 1), (b"e30.", 3), (b"e31..", 4), (b"e30..=", 4)] {
+    for (token, number) in [
+        (&[b'A'; TOKEN_MAX + 1][..], 1),
+        (b"e30.", 3),
+        (b"e31..", 4),
+        (b"e30..=", 4),
+    ] {
         assert_eq!(
             folder.run_on(TOKEN, &["members", "--token", "-"], token).refused(),
             number
@@ -288,7 +294,7 @@ fn generated_calls() {
     let folder = Folder::new("calls");
     let mut seen = [0; 17];
     for case in case_generator::verify_cases(71).take(CALLS) {
-        let (mut header, mut payload) = ([0; 1_024], vec![0; case.payload_len]);
+        let (mut header, mut payload) = ([0; HEADER_MAX], vec![0; case.payload_len]);
         let (answer, _) = reference::token::verify(&case.token, &case.table, &mut header, &mut payload);
         folder.write("table.bin", &case.table);
         let room = case.payload_len.to_string();
@@ -399,6 +405,12 @@ fn usage() {
     assert_eq!(folder.read("token.txt"), published("token.txt"));
     assert_eq!(folder.read("table.bin"), published("table.bin"));
     assert_eq!(folder.run(TOKEN, &["--version"]).done(), "jws-token 0.1.0\n");
+    for (subcommand, room) in [("sign", TOKEN_MAX), ("verify", PAYLOAD_MAX)] {
+        let help = folder.run(TOKEN, &[subcommand, "--help"]);
+        assert!(help
+            .done()
+            .contains(&format!("({room} otherwise, which always suffices)")));
+    }
     for words in [
         &["--help"][..],
         &["sign", "--help"],

@@ -1,5 +1,5 @@
-//! Times the proved member reader beside the reference's, both in one run; then searches a family of headers of at most 1,024
-//! bytes for those that take the proved reader longest. `cargo bench -p jws`.
+//! Times the proved member reader beside the reference's, both in one run; then searches a family of headers for
+//! those that take the proved reader longest. `cargo bench -p jws`.
 //!
 //! Under `cargo test` nothing is timed: the answers to these headers are compared.
 
@@ -19,7 +19,7 @@ fn proved(header: &[u8], k: usize) -> Answer {
     let member = jws::member(black_box(header), k).map_err(|refusal| refusal.number())?;
     let places = [member.name.start, member.name.end, member.value.start, member.value.end];
     let [a, b, c, d] = places.map(|place| place as u64);
-    Ok([member.kind as u64, a, b, c, d])
+    Ok([member.kind.number(), a, b, c, d])
 }
 
 fn reference(header: &[u8], k: usize) -> Answer {

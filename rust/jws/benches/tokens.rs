@@ -3,6 +3,7 @@
 
 use std::hint::black_box;
 
+use jws::{HEADER_MAX, PAYLOAD_MAX, TOKEN_MAX};
 use stopwatch::{least, least_of_both, report};
 
 const TABLE: &[u8] = include_bytes!("../../../crates/verify_token/data/table.bin");
@@ -19,9 +20,9 @@ fn payloads(count: usize, length: usize) -> impl Iterator<Item = Vec<u8>> {
 
 /// Signs and verifies `count` tokens of `length` bytes, and reports the mean of their least times. Both clear the rest of each buffer.
 fn tokens(count: usize, length: usize, payload_length: usize, rounds: usize) {
-    let (mut token, mut their_token) = ([0; 16_384], [0; 16_384]);
-    let (mut header, mut their_header) = ([0; 1_024], [0; 1_024]);
-    let (mut buffer, mut their_buffer) = ([0; 12_288], [0; 12_288]);
+    let (mut token, mut their_token) = ([0; TOKEN_MAX], [0; TOKEN_MAX]);
+    let (mut header, mut their_header) = ([0; HEADER_MAX], [0; HEADER_MAX]);
+    let (mut buffer, mut their_buffer) = ([0; PAYLOAD_MAX], [0; PAYLOAD_MAX]);
     let mut sums = [(0.0, 0.0); 2];
     for payload in payloads(count, payload_length) {
         let (h, p, t) = (black_box(HEADER), black_box(&payload), black_box(TABLE));

@@ -11,8 +11,8 @@ fn exact(bytes: Vec<u8>) -> Box<[u8]> {
 }
 
 /// The number of an answer.
-fn number<T>(result: Result<T, Refusal>, buffers: &[&[u8]]) -> usize {
-    let answer = result.map_or_else(|refusal| usize::from(refusal.number()), |_| 0);
+fn number<T, E: Into<Refusal>>(result: Result<T, E>, buffers: &[&[u8]]) -> usize {
+    let answer = result.map_or_else(|error| usize::from(error.into().number()), |_| 0);
     let zeros = buffers.iter().all(|buffer| buffer.iter().all(|&byte| byte == 0));
     assert!(zeros || answer == 0, "a refusal leaves zeros");
     answer

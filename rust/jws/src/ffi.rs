@@ -6,6 +6,9 @@
 //! else that is lent to the same call. There is no other precondition.
 
 extern "C" {
+    /// The number of the archive's boundary.
+    pub fn jws_boundary() -> u32;
+
     /// Member `k` of a header: kind, name start, name end, value start, value end.
     pub fn jws_member(header: *const u8, header_len: usize, k: usize, member: *mut [u64; 5]) -> u8;
 
@@ -22,6 +25,9 @@ extern "C" {
         payload_len: usize,
         record: *mut [u64; 9],
     ) -> u8;
+
+    /// How many bytes of a payload buffer of this length hold the payload.
+    pub fn jws_payload(record: *const [u64; 9], buffer_len: usize) -> u64;
 
     /// Signs a header and a payload: the token's length.
     pub fn jws_sign(

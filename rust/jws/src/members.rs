@@ -1,41 +1,71 @@
 //! A header's members.
 
-use std::iter::FusedIterator;
-use std::ops::Range;
+use core::iter::FusedIterator;
+use core::ops::Range;
 
 use crate::ffi;
+use crate::words::places;
 use crate::Refusal;
 
 /// The kind of a member's value.
 #[derive(Clone, Copy, Debug, PartialEq, Eq, Hash)]
-#[repr(u8)]
 pub enum Kind {
     /// `"..."`
-    String = 1,
+    String,
     /// `-1.5e3`
-    Number = 2,
+    Number,
     /// `true`
-    True = 3,
+    True,
     /// `false`
-    False = 4,
+    False,
     /// `null`
-    Null = 5,
+    Null,
     /// `[...]`
-    Array = 6,
+    Array,
     /// `{...}`
-    Object = 7,
+    Object,
+    /// A number that no other case has. It is a kind and no refusal, so that the member isn't lost, nor those after it.
+    Unknown(u64),
 }
 
 impl Kind {
-    const ALL: [Kind; 7] = [
-        Kind::String,
-        Kind::Number,
-        Kind::True,
-        Kind::False,
-        Kind::Null,
-        Kind::Array,
-        Kind::Object,
-    ];
+    /// The kind with this number.
+    const fn of(number: u64) -> Kind {
+        match number {
+            1 => Kind::String,
+            2 => Kind::Number,
+            3 => Kind::True,
+            4 => Kind::False,
+            5 => Kind::Null,
+            6 => Kind::Array,
+            7 => Kind::Object,
+            other => Kind::Unknown(other),
+        }
+    }
+
+    /// The number in `include/jws.h`.
+    ///
+    /// ```
+    /// assert_eq!(jws::Kind::Object.number(), 7);
+    /// ```
+    pub const fn number(self) -> u64 {
+        match self {
+            Kind::String => 1,
+            Kind::Number => 2,
+            Kind::True => 3,
+            Kind::False => 4,
+            Kind::Null => 5,
+            Kind::Array => 6,
+            Kind::Object => 7,
+            Kind::Unknown(number) => number,
+        }
+    }
+}
+
+impl From<Kind> for u64 {
+    fn from(kind: Kind) -> u64 {
+        kind.number()
+    }
 }
 
 /// A member of a header's top object, by its places in the header's bytes. A string is raw: its escapes are not resolved.
@@ -52,11 +82,17 @@ pub struct Member {
 impl Member {
     fn of([kind, name_start, name_end, value_start, value_end]: [u64; 5]) -> Self {
         Member {
-            kind: Kind::ALL[kind as usize - 1],
-            name: name_start as usize..name_end as usize,
-            value: value_start as usize..value_end as usize,
+            kind: Kind::of(kind),
+            name: places(name_start, name_end),
+            value: places(value_start, value_end),
         }
     }
+}
+
+/// What the archive's answer and words say.
+fn found(answer: u8, words: [u64; 5]) -> Result<Member, Refusal> {
+    Refusal::check(answer)?;
+    Ok(Member::of(words))
 }
 
 /// Member `k`, from 0, of the header's top object.
@@ -80,8 +116,7 @@ pub fn member(header: &[u8], k: usize) -> Result<Member, Refusal> {
     let mut words = [0; 5];
     // SAFETY: the pointer goes with the slice's length, and `words` is five words of this function's own.
     let answer = unsafe { ffi::jws_member(header.as_ptr(), header.len(), k, &mut words) };
-    Refusal::check(answer)?;
-    Ok(Member::of(words))
+    found(answer, words)
 }
 
 /// The members of the header's top object, in order. A header that isn't read is refused here.
@@ -117,10 +152,51 @@ impl Iterator for Members<'_> {
 
     fn next(&mut self) -> Option<Member> {
         let found = self.ahead.take()?;
-        self.k += 1;
+        self.k = self.k.saturating_add(1);
         self.ahead = member(self.header, self.k).ok();
         Some(found)
     }
 }
 
 impl FusedIterator for Members<'_> {}
+
+#[cfg(test)]
+mod tests {
+    use super::*;
+
+    const LEAST: [u64; 5] = [0; 5];
+    const GREATEST: [u64; 5] = [u64::MAX; 5];
+    const GOOD: [u64; 5] = [6, 18, 19, 22, 25];
+
+    #[test]
+    fn every_answer() {
+        for words in [LEAST, GREATEST, GOOD] {
+            for number in 1..=u8::MAX {
+                let refusal = found(number, words).unwrap_err();
+                assert_eq!(refusal.number(), number);
+                assert_eq!(matches!(refusal, Refusal::Unknown(_)), number > 16);
+            }
+        }
+    }
+
+    #[test]
+    fn every_word() {
+        let member = |kind, name, value| Member { kind, name, value };
+        let greatest = usize::MAX..usize::MAX;
+        assert_eq!(found(0, LEAST), Ok(member(Kind::Unknown(0), 0..0, 0..0)));
+        assert_eq!(found(0, GOOD), Ok(member(Kind::Array, 18..19, 22..25)));
+        assert_eq!(
+            found(0, GREATEST),
+            Ok(member(Kind::Unknown(u64::MAX), greatest.clone(), greatest))
+        );
+    }
+
+    #[test]
+    fn every_kind() {
+        for number in (0..=u64::from(u16::MAX)).chain([u64::MAX]) {
+            let kind = Kind::of(number);
+            assert_eq!((kind.number(), u64::from(kind)), (number, number));
+            assert_eq!(matches!(kind, Kind::Unknown(_)), !(1..=7).contains(&number));
+        }
+    }
+}

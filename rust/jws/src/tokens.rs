@@ -1,12 +1,21 @@
 //! Verifying and signing compact tokens.
 
-use std::ops::Range;
+use core::ops::Range;
 
 use crate::ffi;
-use crate::Refusal;
+use crate::words::{places, size, word};
+use crate::{Refusal, Refused};
+
+/// No token has more bytes: a buffer of this length is long enough for any that is signed.
+pub const TOKEN_MAX: usize = 16_384;
+/// No header has more bytes: a buffer of this length is long enough for that of any token.
+pub const HEADER_MAX: usize = 1_024;
+/// No payload of a token has more bytes: a buffer of this length is long enough for any.
+pub const PAYLOAD_MAX: usize = TOKEN_MAX / 4 * 3;
 
 /// What an accepted token had.
 #[derive(Clone, Debug, PartialEq, Eq, Hash)]
+#[non_exhaustive]
 pub struct Record {
     /// Bytes of the decoded header.
     pub header_length: usize,
@@ -26,45 +35,104 @@ pub struct Record {
 
 impl Record {
     fn of([header, payload, key, kid, format, typ, typ_length, cty, cty_length]: [u64; 9]) -> Self {
-        // A start is 0 only where the member is absent: a text begins after a brace and a quotation mark.
-        let part = |start: u64, length: u64| (start != 0).then(|| start as usize..(start + length) as usize);
         Record {
-            header_length: header as usize,
-            payload_length: payload as usize,
-            key_index: key as usize,
+            header_length: size(header),
+            payload_length: size(payload),
+            key_index: size(key),
             kid_present: kid == 1,
-            format: format as u8,
-            typ: part(typ, typ_length),
-            cty: part(cty, cty_length),
+            format: u8::try_from(format).unwrap_or(u8::MAX),
+            typ: text(typ, typ_length),
+            cty: text(cty, cty_length),
         }
     }
+
+    /// The words that it is made of.
+    fn words(&self) -> [u64; 9] {
+        let [typ, typ_length] = text_words(&self.typ);
+        let [cty, cty_length] = text_words(&self.cty);
+        [
+            word(self.header_length),
+            word(self.payload_length),
+            word(self.key_index),
+            u64::from(self.kid_present),
+            u64::from(self.format),
+            typ,
+            typ_length,
+            cty,
+            cty_length,
+        ]
+    }
+
+    /// The payload of an accepted token, as a part of the buffer that [`verify`] wrote. Empty if the payload's length doesn't fit.
+    ///
+    /// ```
+    /// # use jws::{HEADER_MAX, PAYLOAD_MAX};
+    /// # let table = include_bytes!(concat!(env!("CARGO_MANIFEST_DIR"), "/../../crates/verify_token/data/table.bin"));
+    /// # let token = include_bytes!(concat!(env!("CARGO_MANIFEST_DIR"), "/../../crates/verify_token/data/token.txt"));
+    /// # let (mut header, mut buffer) = ([0; HEADER_MAX], [0; PAYLOAD_MAX]);
+    /// let record = jws::verify(token, table, &mut header, &mut buffer)?;
+    /// assert_eq!(record.payload(&buffer).len(), 70);
+    /// assert_eq!(record.payload(&buffer[..69]), b"");
+    /// # Ok::<(), jws::Refusal>(())
+    /// ```
+    pub fn payload<'b>(&self, buffer: &'b [u8]) -> &'b [u8] {
+        // SAFETY: the words are this function's own, and no byte of the buffer is lent.
+        let length = unsafe { ffi::jws_payload(&self.words(), buffer.len()) };
+        buffer.get(..size(length)).unwrap_or(&[])
+    }
+}
+
+/// Where a text lies. A start is 0 only where the member is absent: a text begins after a brace and a quotation mark.
+fn text(start: u64, length: u64) -> Option<Range<usize>> {
+    (start != 0).then(|| places(start, start.saturating_add(length)))
+}
+
+/// Where a text lies, as its start and its length; 0 and 0 for none.
+fn text_words(text: &Option<Range<usize>>) -> [u64; 2] {
+    text.as_ref()
+        .map_or([0; 2], |text| [word(text.start), word(text.len())])
+}
+
+/// What the archive's answer and words say of a token.
+fn verified(answer: u8, words: [u64; 9]) -> Result<Record, Refused> {
+    Refused::check(answer)?;
+    Ok(Record::of(words))
+}
+
+/// What the archive's answer and word say of a signed token.
+fn signed(answer: u8, length: u64) -> Result<usize, Refusal> {
+    Refusal::check(answer)?;
+    Ok(size(length))
 }
 
 /// Verifies a compact token against a key table.
 ///
 /// If the token is accepted, `header` holds the decoded header and `payload` the payload, each followed by zeros. If it is
-/// refused, both are all zeros. 1,024 bytes always suffice for the header, and 3/4 of the token's length for the payload.
+/// refused, both are all zeros. [`HEADER_MAX`] bytes always suffice for the header, and [`PAYLOAD_MAX`] or 3/4 of the token's
+/// length for the payload.
 ///
 /// The refusal is the first of [`Refusal::TokenTooLong`] to [`Refusal::SignatureDiffers`], in the order of their numbers.
 ///
 /// The token of RFC 7515 A.1, with its key alone in the table:
 ///
 /// ```
+/// use jws::{Refusal, HEADER_MAX, PAYLOAD_MAX};
+///
 /// # let table = include_bytes!(concat!(env!("CARGO_MANIFEST_DIR"), "/../../crates/verify_token/data/table.bin"));
 /// # let token = include_bytes!(concat!(env!("CARGO_MANIFEST_DIR"), "/../../crates/verify_token/data/token.txt"));
-/// let mut header = [0; 1_024];
-/// let mut buffer = [0; 12_288];
+/// let mut header = [0; HEADER_MAX];
+/// let mut buffer = [0; PAYLOAD_MAX];
 /// let record = jws::verify(token, table, &mut header, &mut buffer)?;
 /// assert_eq!((record.key_index, record.format), (0, 1));
 /// assert_eq!(header[record.typ.clone().unwrap()], *b"JWT");
-/// assert!(jws::payload(&record, &buffer).starts_with(br#"{"iss":"joe","#));
+/// assert!(record.payload(&buffer).starts_with(br#"{"iss":"joe","#));
 ///
-/// let refused = jws::verify(&token[..178], table, &mut header, &mut buffer);
-/// assert_eq!(refused, Err(jws::Refusal::NotBase64url));
-/// assert_eq!((header, buffer), ([0; 1_024], [0; 12_288]));
-/// # Ok::<(), jws::Refusal>(())
+/// let refused = jws::verify(&token[..178], table, &mut header, &mut buffer).unwrap_err();
+/// assert_eq!(refused.refusal, Refusal::NotBase64url);
+/// assert_eq!((header, buffer), ([0; HEADER_MAX], [0; PAYLOAD_MAX]));
+/// # Ok::<(), Refusal>(())
 /// ```
-pub fn verify(token: &[u8], table: &[u8], header: &mut [u8], payload: &mut [u8]) -> Result<Record, Refusal> {
+pub fn verify(token: &[u8], table: &[u8], header: &mut [u8], payload: &mut [u8]) -> Result<Record, Refused> {
     let mut words = [0; 9];
     // SAFETY: each pointer goes with the length of its own slice; the slices that are written are lent exclusively, and
     // `words` is nine words of this function's own.
@@ -81,42 +149,34 @@ pub fn verify(token: &[u8], table: &[u8], header: &mut [u8], payload: &mut [u8])
             &mut words,
         )
     };
-    Refusal::check(answer)?;
-    Ok(Record::of(words))
+    verified(answer, words)
 }
 
-/// The payload of an accepted token, as a part of the buffer that [`verify`] wrote. Empty if the record's length doesn't fit.
-///
-/// ```
-/// # let table = include_bytes!(concat!(env!("CARGO_MANIFEST_DIR"), "/../../crates/verify_token/data/table.bin"));
-/// # let token = include_bytes!(concat!(env!("CARGO_MANIFEST_DIR"), "/../../crates/verify_token/data/token.txt"));
-/// # let (mut header, mut buffer) = ([0; 1_024], [0; 12_288]);
-/// let record = jws::verify(token, table, &mut header, &mut buffer)?;
-/// assert_eq!(jws::payload(&record, &buffer).len(), 70);
-/// assert_eq!(jws::payload(&record, &buffer[..69]), b"");
-/// # Ok::<(), jws::Refusal>(())
-/// ```
+/// The payload of an accepted token: [`Record::payload`].
 pub fn payload<'b>(record: &Record, buffer: &'b [u8]) -> &'b [u8] {
-    buffer.get(..record.payload_length).unwrap_or(&[])
+    record.payload(buffer)
 }
 
 /// Signs a header and a payload by a key of the table, and returns the token's length.
 ///
-/// If it is signed, `token` holds the token and then zeros. If it is refused, `token` is all zeros. 16,384 bytes always suffice.
+/// If it is signed, `token` holds the token and then zeros. If it is refused, `token` is all zeros. [`TOKEN_MAX`] bytes always
+/// suffice.
 ///
 /// The refusal is the first of: [`Refusal::BadTable`], [`Refusal::HeaderTooLong`], [`Refusal::NotDerived`] to
 /// [`Refusal::FormatNotAllowed`], [`Refusal::TokenTooLong`], [`Refusal::BufferTooShort`].
 ///
 /// ```
+/// use jws::{Refusal, TOKEN_MAX};
+///
 /// # let table = include_bytes!(concat!(env!("CARGO_MANIFEST_DIR"), "/../../crates/verify_token/data/table.bin"));
-/// let mut buffer = [0; 16_384];
+/// let mut buffer = [0; TOKEN_MAX];
 /// let length = jws::sign(br#"{"alg":"HS256"}"#, b"setpoint 21.5", table, &mut buffer)?;
 /// assert!(buffer[..length].starts_with(b"eyJhbGciOiJIUzI1NiJ9.c2V0cG9pbnQgMjEuNQ."));
 ///
 /// let refused = jws::sign(br#"{"alg":"none"}"#, b"setpoint 21.5", table, &mut buffer);
-/// assert_eq!(refused, Err(jws::Refusal::WrongAlg));
-/// assert_eq!(buffer, [0; 16_384]);
-/// # Ok::<(), jws::Refusal>(())
+/// assert_eq!(refused, Err(Refusal::WrongAlg));
+/// assert_eq!(buffer, [0; TOKEN_MAX]);
+/// # Ok::<(), Refusal>(())
 /// ```
 pub fn sign(header: &[u8], payload: &[u8], table: &[u8], token: &mut [u8]) -> Result<usize, Refusal> {
     let mut length = 0;
@@ -135,6 +195,67 @@ pub fn sign(header: &[u8], payload: &[u8], table: &[u8], token: &mut [u8]) -> Re
             &mut length,
         )
     };
-    Refusal::check(answer)?;
-    Ok(length as usize)
+    signed(answer, length)
+}
+
+#[cfg(test)]
+mod tests {
+    use super::*;
+
+    const LEAST: [u64; 9] = [0; 9];
+    const GREATEST: [u64; 9] = [u64::MAX; 9];
+    const GOOD: [u64; 9] = [30, 70, 2, 1, 8, 8, 3, 20, 0];
+
+    #[test]
+    fn every_answer() {
+        for number in 1..=u8::MAX {
+            for words in [LEAST, GREATEST, GOOD] {
+                let refusal = Refusal::from(verified(number, words).unwrap_err());
+                assert_eq!(refusal.number(), number);
+                assert_eq!(matches!(refusal, Refusal::Unknown(_)), number > 16);
+            }
+            for length in [0, u64::MAX, 179] {
+                let refusal = signed(number, length).unwrap_err();
+                assert_eq!(refusal.number(), number);
+                assert_eq!(matches!(refusal, Refusal::Unknown(_)), number > 16);
+            }
+        }
+    }
+
+    #[test]
+    fn every_word() {
+        let record = verified(0, GOOD).unwrap();
+        let good = Record {
+            header_length: 30,
+            payload_length: 70,
+            key_index: 2,
+            kid_present: true,
+            format: 8,
+            typ: Some(8..11),
+            cty: Some(20..20),
+        };
+        assert_eq!(record, good);
+        assert_eq!(record.words(), GOOD);
+        let least = verified(0, LEAST).unwrap();
+        assert_eq!((&least.typ, &least.cty, least.words()), (&None, &None, LEAST));
+        let greatest = verified(0, GREATEST).unwrap();
+        assert_eq!((greatest.format, greatest.kid_present), (u8::MAX, false));
+        assert_eq!(greatest.typ, Some(usize::MAX..usize::MAX));
+        assert_eq!(signed(0, 179), Ok(179));
+        assert_eq!(signed(0, u64::MAX), Ok(usize::MAX));
+    }
+
+    #[test]
+    fn payloads_of_every_record() {
+        let buffer = [7; 70];
+        let part = |words, room: usize| verified(0, words).unwrap().payload(&buffer[..room]).len();
+        assert_eq!([part(GOOD, 70), part(GOOD, 69), part(GOOD, 0)], [70, 0, 0]);
+        assert_eq!([part(LEAST, 70), part(LEAST, 0)], [0, 0]);
+        assert_eq!([part(GREATEST, 70), part(GREATEST, 0)], [0, 0]);
+        let backwards = Record {
+            typ: Some(Range { start: 9, end: 3 }),
+            ..verified(0, GOOD).unwrap()
+        };
+        assert_eq!(payload(&backwards, &buffer).len(), 70);
+    }
 }

@@ -1,5 +1,7 @@
-//! `include/jws.h` from C and C++, the stack that a call takes, and what it leaves there. Needs the C compiler that cargo links with.
+//! `include/jws.h` from C and C++ and beside this crate's constants, the stack that a call takes, and what it leaves there. Needs the C
+//! compiler that cargo links with.
 
+use std::collections::BTreeMap;
 use std::io::Write;
 use std::path::{Path, PathBuf};
 use std::process::{Command, Stdio};
@@ -15,13 +17,80 @@ fn compiled(compiler: &str, words: &[&str], source: &str) -> Option<PathBuf> {
         .arg(format!("-I{HERE}/../../include"))
         .arg(format!("{HERE}/tests/c/{source}"))
         .args(["-x", "none"])
-        .arg(format!("{HERE}/../../target/staticlib/libjws_ffi.a"))
+        .arg(env!("JWS_ARCHIVE"))
         .arg("-o")
         .arg(&program)
         .status()
         .ok()?;
     assert!(status.success(), "{compiler} {source}");
     Some(program)
+}
+
+/// The constants of `include/jws.h`, each a line `JWS_NAME = number` or `#define JWS_NAME number`, without `JWS_`.
+fn constants() -> BTreeMap<String, u64> {
+    let header = std::fs::read_to_string(format!("{HERE}/../../include/jws.h")).unwrap();
+    let constant = |line: &str| {
+        let line = line.trim();
+        let (name, rest) = match line.strip_prefix("#define ") {
+            Some(defined) => defined.split_once(' ')?,
+            None => line.split_once(" = ")?,
+        };
+        let digits: String = rest.chars().take_while(char::is_ascii_digit).collect();
+        Some((name.strip_prefix("JWS_")?.to_string(), digits.parse().ok()?))
+    };
+    header.lines().filter_map(constant).collect()
+}
+
+#[test]
+fn limits_agree() {
+    let constants = constants();
+    for (name, limit) in [
+        ("TOKEN_MAX", jws::TOKEN_MAX),
+        ("HEADER_MAX", jws::HEADER_MAX),
+        ("PAYLOAD_MAX", jws::PAYLOAD_MAX),
+    ] {
+        assert_eq!(constants.get(name), Some(&(limit as u64)), "{name}");
+    }
+    assert_eq!(jws::TOKEN_MAX, reference::limits::TOKEN_MAX);
+    assert_eq!(jws::HEADER_MAX, reference::limits::HEADER_MAX);
+    assert_eq!(jws::PAYLOAD_MAX, reference::limits::TOKEN_MAX / 4 * 3);
+}
+
+#[test]
+fn boundaries_agree() {
+    assert_eq!(constants().get("BOUNDARY"), Some(&u64::from(jws::BOUNDARY)));
+    assert_eq!(jws::boundary(), jws::BOUNDARY);
+}
+
+#[test]
+fn kinds_agree() {
+    use jws::Kind::{Array, False, Null, Number, Object, String, True};
+    let constants = constants();
+    for kind in [String, Number, True, False, Null, Array, Object] {
+        let name = format!("{kind:?}").to_uppercase();
+        assert_eq!(constants.get(&name), Some(&kind.number()), "{name}");
+    }
+}
+
+/// The part of a buffer that holds the payload, by words as they come, some of them out of any record.
+#[test]
+fn payload_lengths() {
+    let mut words = [0xA5; 9];
+    for (length, room, expected) in [
+        (0, 0, 0),
+        (0, 5, 0),
+        (5, 5, 5),
+        (5, 6, 5),
+        (6, 5, 0),
+        (u64::MAX, 5, 0),
+        (u64::MAX, usize::MAX, usize::MAX as u64),
+        (1 << 32, 5, 0),
+    ] {
+        words[1] = length;
+        // SAFETY: the words are this function's own.
+        let part = unsafe { jws::ffi::jws_payload(&words, room) };
+        assert_eq!(part, expected, "{length} of {room}");
+    }
 }
 
 #[test]

@@ -26,7 +26,7 @@ fn header_for(rng: &mut Rng, table: &[u8]) -> Vec<u8> {
 #[test]
 fn header_rules_agree() {
     let count = cases_or(10_000);
-    let room = reference::token::token_len(1_024, 0);
+    let room = reference::token::token_len(jws::HEADER_MAX, 0);
     let mut calls = [0; 17];
     let (mut named, mut formats, mut texts) = ([0; 2], [0; 9], [0; 2]);
     for (case, table) in case_generator::tables(SEED).take(count).enumerate() {

@@ -14,7 +14,7 @@ fn plain(member: Result<jws::Member, Refusal>) -> (u8, [u64; 5]) {
         Ok(member) => {
             let places = [member.name.start, member.name.end, member.value.start, member.value.end];
             let [a, b, c, d] = places.map(|place| place as u64);
-            (0, [member.kind as u64, a, b, c, d])
+            (0, [member.kind.number(), a, b, c, d])
         }
     }
 }

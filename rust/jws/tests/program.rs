@@ -6,6 +6,9 @@ use std::fs;
 use std::path::{Path, PathBuf};
 use std::process::Command;
 
+use jws::TOKEN_MAX;
+use reference::limits::TABLE_MAX;
+
 const HERE: &str = env!("CARGO_MANIFEST_DIR");
 
 /// The program's standard output in a folder that has these files.
@@ -66,15 +69,15 @@ fn missing_files() {
 #[test]
 fn longest_files() {
     let mut table = common::one_key();
-    let longest = common::raw_sign(br#"{"alg":"HS256"}"#, &[b'p'; 12_239], &table, 16_384).buffer;
+    let longest = common::raw_sign(br#"{"alg":"HS256"}"#, &[b'p'; 12_239], &table, TOKEN_MAX).buffer;
     let accepted = "accepted key=0 fmt=1 payload=12239\n";
     assert_eq!(output("longest", Some(&table), Some(&longest)), accepted);
     let longer = [&longest[..], b"A"].concat();
     assert_eq!(output("longer", Some(&table), Some(&longer)), "refused 1\n");
-    assert_eq!(output("letters", Some(&table), Some(&[b'A'; 16_384])), "refused 3\n");
+    assert_eq!(output("letters", Some(&table), Some(&[b'A'; TOKEN_MAX])), "refused 3\n");
 
     // Bytes in no area at the table's end, and the total with them.
-    for (length, expected) in [(8_192usize, accepted), (8_193, "refused 2\n")] {
+    for (length, expected) in [(TABLE_MAX, accepted), (TABLE_MAX + 1, "refused 2\n")] {
         table.resize(length, 0);
         table[4..8].copy_from_slice(&(length as u32).to_be_bytes());
         assert_eq!(output("table", Some(&table), Some(&longest)), expected);

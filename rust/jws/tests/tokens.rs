@@ -6,6 +6,7 @@ use common::{
     by_answer, cases, one_key, raw_sign, raw_verify, reference_sign, reference_verify, safe_sign, safe_verify,
 };
 use common::{Signed, Verified};
+use jws::{HEADER_MAX, PAYLOAD_MAX, TOKEN_MAX};
 
 /// Verifies by the proved code, raw and safe, and by the reference, which all agree.
 fn verify(token: &[u8], table: &[u8], header_len: usize, payload_len: usize) -> Verified {
@@ -75,15 +76,18 @@ const LONGEST_PAYLOAD: [u8; 12_239] = [b'p'; 12_239];
 #[test]
 fn token_lengths() {
     let table = one_key();
-    let longest = sign(HEADER, &LONGEST_PAYLOAD, &table, 16_384);
-    assert_eq!((longest.answer, longest.length), (0, 16_384));
-    assert_eq!(verify(longest.token(), &table, 1_024, 12_288).answer, 0);
+    let longest = sign(HEADER, &LONGEST_PAYLOAD, &table, TOKEN_MAX);
+    assert_eq!((longest.answer, longest.length), (0, TOKEN_MAX as u64));
+    assert_eq!(verify(longest.token(), &table, HEADER_MAX, PAYLOAD_MAX).answer, 0);
     let longer = [longest.token(), b"A"].concat();
-    assert_eq!(verify(&longer, &table, 1_024, 12_288).answer, 1);
+    assert_eq!(verify(&longer, &table, HEADER_MAX, PAYLOAD_MAX).answer, 1);
     assert_eq!(verify(&longer, &[], 0, 0).answer, 1);
     assert_eq!(sign(HEADER, &[b'p'; 12_240], &table, 20_000).answer, 1);
-    assert_eq!(verify(&[b'A'; 16_384], &table, 1_024, 12_288).answer, 3);
-    assert_eq!(verify(&[b'A'; 16_385], &table, 1_024, 12_288).answer, 1);
+    assert_eq!(verify(&[b'A'; TOKEN_MAX], &table, HEADER_MAX, PAYLOAD_MAX).answer, 3);
+    assert_eq!(
+        verify(&[b'A'; TOKEN_MAX + 1], &table, HEADER_MAX, PAYLOAD_MAX).answer,
+        1
+    );
     assert_eq!(verify(&vec![b'.'; 100_000], &table, 10, 10).answer, 1);
 }
 
@@ -91,11 +95,11 @@ fn token_lengths() {
 fn header_lengths() {
     let table = one_key();
     let padded = |length: usize| format!("{:length$}", r#"{"alg":"HS256"}"#).into_bytes();
-    let signed = sign(&padded(1_024), b"", &table, 2_000);
+    let signed = sign(&padded(HEADER_MAX), b"", &table, 2_000);
     assert_eq!((signed.answer, signed.length), (0, 1_366 + 45));
-    assert_eq!(verify(signed.token(), &table, 1_024, 0).answer, 0);
-    assert_eq!(sign(&padded(1_025), b"", &table, 2_000).answer, 5);
-    let token = format!("{}..", reference::base64url::encode(&padded(1_025)));
+    assert_eq!(verify(signed.token(), &table, HEADER_MAX, 0).answer, 0);
+    assert_eq!(sign(&padded(HEADER_MAX + 1), b"", &table, 2_000).answer, 5);
+    let token = format!("{}..", reference::base64url::encode(&padded(HEADER_MAX + 1)));
     assert_eq!(verify(token.as_bytes(), &table, 2_000, 0).answer, 5);
     assert_eq!(verify(token.as_bytes(), &table, 0, 0).answer, 5);
 }
@@ -124,7 +128,7 @@ fn buffer_lengths() {
 fn places_of_periods() {
     let table = one_key();
     for h in HEADER.len()..HEADER.len() + 48 {
-        let header = format!("{:h$}", str::from_utf8(HEADER).unwrap()).into_bytes();
+        let header = format!("{:h$}", std::str::from_utf8(HEADER).unwrap()).into_bytes();
         for p in 0..48 {
             let signed = sign(&header, &LONGEST_PAYLOAD[..p], &table, 300);
             assert_eq!(verify(signed.token(), &table, h, p).answer, 0);

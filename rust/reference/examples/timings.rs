@@ -4,6 +4,7 @@ use std::hint::black_box;
 use std::time::Instant;
 
 use reference::hmac::hmac_sha256;
+use reference::limits::{HEADER_MAX, TOKEN_MAX};
 use reference::{base64url, json, sha256, token};
 
 const RUNS: usize = 15;
@@ -70,12 +71,12 @@ fn main() {
     });
 
     let table = table();
-    let mut token = vec![0; 16_384];
+    let mut token = vec![0; TOKEN_MAX];
     let payload = vec![b'p'; 11_955];
     let (answer, length) = token::sign(b"{\"alg\":\"HS256\"}", &payload, &table, &mut token);
     assert_eq!((answer, length), (0, 16_005));
-    let mut header_buf = vec![0; 1_024];
-    let mut payload_buf = vec![0; 12_288];
+    let mut header_buf = vec![0; HEADER_MAX];
+    let mut payload_buf = vec![0; TOKEN_MAX / 4 * 3];
     time("verify, token of 16,005 bytes", 16_005, 100, || {
         token::verify(
             black_box(&token[..length]),
@@ -85,7 +86,7 @@ fn main() {
         )
     });
     time("sign, token of 16,005 bytes", 16_005, 100, || {
-        let mut token = vec![0; 16_384];
+        let mut token = vec![0; TOKEN_MAX];
         token::sign(
             b"{\"alg\":\"HS256\"}",
             black_box(&payload),

@@ -1,7 +1,8 @@
 //! Headers to time.
 
-/// The greatest length and depth of a header.
-const MAX: usize = 1_024;
+use jws::HEADER_MAX;
+
+/// The greatest depth of a header.
 const DEEPEST: usize = 8;
 
 /// A header of 1,000 bytes with 20 members of these names.
@@ -102,7 +103,7 @@ fn wrapped(add: &mut impl FnMut(String, String), name: &str, depth: usize, value
         (DEEPEST - depth, "[", "]", "arrays"),
     ] {
         let inner = outer - 1;
-        let room = MAX - 6 - inner * (open.len() + close.len());
+        let room = HEADER_MAX - 6 - inner * (open.len() + close.len());
         let header = format!("{{\"x\":{}{}{}}}", open.repeat(inner), value(room), close.repeat(inner));
         add(format!("{name}, in {outer} ({around})"), header);
     }
@@ -112,7 +113,7 @@ fn wrapped(add: &mut impl FnMut(String, String), name: &str, depth: usize, value
 pub fn all() -> Vec<(String, Vec<u8>)> {
     let mut all = Vec::new();
     let mut add = |name: String, header: String| {
-        assert!(header.len() <= MAX, "{name}");
+        assert!(header.len() <= HEADER_MAX, "{name}");
         all.push((name, header.into_bytes()));
     };
 
@@ -177,7 +178,7 @@ pub fn all() -> Vec<(String, Vec<u8>)> {
     // Empty objects, and after them strings that would be members if a quotation mark closed a name.
     for empty in [20, 40, 60, 80, 100, 120, 140, 160, 180, 200, 220, 240] {
         let objects = list(4 * empty, |_| "{}".into());
-        let strings = list(MAX - 10 - objects.len(), |i| format!("\":0,\",{i}"));
+        let strings = list(HEADER_MAX - 10 - objects.len(), |i| format!("\":0,\",{i}"));
         add(
             format!("{empty} empty objects before strings that begin with a colon"),
             format!("{{\"x\":[{objects},{strings}]}}"),

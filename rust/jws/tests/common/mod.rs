@@ -199,8 +199,8 @@ pub fn safe_sign(header: &[u8], payload: &[u8], table: &[u8], token_len: usize) 
     }
 }
 
-fn number<T>(result: Result<T, Refusal>) -> u8 {
-    result.map_or_else(Refusal::number, |_| 0)
+fn number<T, E: Into<Refusal>>(result: Result<T, E>) -> u8 {
+    result.map_or_else(|error| error.into().number(), |_| 0)
 }
 
 /// How many calls got each of these answers, in words.
