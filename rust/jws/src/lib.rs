@@ -52,3 +52,8 @@ pub use boundary::{boundary, BOUNDARY};
 pub use members::{member, members, Kind, Member, Members};
 pub use refusal::{Refusal, Refused};
 pub use tokens::{payload, sign, verify, Record, HEADER_MAX, PAYLOAD_MAX, TOKEN_MAX};
+
+/// The README's examples.
+#[cfg(doctest)]
+#[doc = include_str!("../../../README.md")]
+struct Readme;
