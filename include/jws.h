@@ -39,23 +39,23 @@ uint32_t jws_boundary(void);
 
 /* Answers. */
 enum {
-    JWS_DONE = 0,                /* accepted, signed or member found */
-    JWS_TOKEN_TOO_LONG = 1,      /* token longer than JWS_TOKEN_MAX bytes */
-    JWS_BAD_TABLE = 2,           /* bad key table */
-    JWS_NOT_TWO_PERIODS = 3,     /* token hasn't exactly two periods */
-    JWS_NOT_BASE64URL = 4,       /* a segment isn't strict base64url */
-    JWS_HEADER_TOO_LONG = 5,     /* header longer than JWS_HEADER_MAX bytes */
-    JWS_BUFFER_TOO_SHORT = 6,    /* a buffer is shorter than what it must hold */
-    JWS_NOT_DERIVED = 7,         /* header isn't derived by the grammar, or nests deeper than 8 */
-    JWS_NAME_TWICE = 8,          /* one object of the header has a name twice */
-    JWS_WRONG_KIND = 9,          /* a known member is missing or has the wrong kind */
-    JWS_CRITICAL = 10,           /* critical rule broken (`crit`, `fmt`) */
-    JWS_WRONG_ALG = 11,          /* alg isn't HS256 */
-    JWS_NO_KEY = 12,             /* no key found */
-    JWS_ALG_NOT_ALLOWED = 13,    /* the key's HS256 bit is 0 */
-    JWS_FORMAT_NOT_ALLOWED = 14, /* the key's formats lack this format */
-    JWS_SIGNATURE_DIFFERS = 15,  /* signature differs */
-    JWS_NO_SUCH_MEMBER = 16      /* no such member (jws_member only) */
+    JWS_DONE = 0,                /* done */
+    JWS_TOKEN_TOO_LONG = 1,      /* the token has more than 16,384 bytes */
+    JWS_BAD_TABLE = 2,           /* the table is bad */
+    JWS_NOT_TWO_PERIODS = 3,     /* there are fewer than two periods, or more */
+    JWS_NOT_BASE64URL = 4,       /* one of the three segments isn't strict */
+    JWS_HEADER_TOO_LONG = 5,     /* the header has more than 1,024 bytes */
+    JWS_BUFFER_TOO_SHORT = 6,    /* a buffer can't hold what belongs in it */
+    JWS_NOT_DERIVED = 7,         /* the header isn't JSON by the grammar, or goes deeper than 8 */
+    JWS_NAME_TWICE = 8,          /* an object in the header has a name twice */
+    JWS_WRONG_KIND = 9,          /* `alg` is missing, or a member with a meaning isn't what it must be */
+    JWS_CRITICAL = 10,           /* `crit` breaks its rules, or `fmt` stands there and isn't listed */
+    JWS_WRONG_ALG = 11,          /* `alg` is another algorithm */
+    JWS_NO_KEY = 12,             /* no key is found */
+    JWS_ALG_NOT_ALLOWED = 13,    /* the key doesn't allow HS256 */
+    JWS_FORMAT_NOT_ALLOWED = 14, /* the key doesn't allow the format, or there is no such format */
+    JWS_SIGNATURE_DIFFERS = 15,  /* the signature is another one */
+    JWS_NO_SUCH_MEMBER = 16      /* the header has no member k */
 };
 
 /* Kinds of a member's value. */

@@ -1,36 +1,36 @@
-//! Specification, "Numbered answers": one name for each number.
+//! Specification, "Answers": one name for each number.
 
-/// Accepted, signed or member found.
+/// Done.
 pub const DONE: u8 = 0;
-/// Token longer than 16,384 bytes.
+/// The token has more than 16,384 bytes.
 pub const TOKEN_TOO_LONG: u8 = 1;
-/// Bad table.
+/// The table is bad.
 pub const BAD_TABLE: u8 = 2;
-/// Token hasn't exactly two periods.
+/// There are fewer than two periods, or more.
 pub const NOT_TWO_PERIODS: u8 = 3;
-/// A segment isn't strict base64url.
+/// One of the three segments isn't strict.
 pub const NOT_BASE64URL: u8 = 4;
-/// Header longer than 1,024 bytes.
+/// The header has more than 1,024 bytes.
 pub const HEADER_TOO_LONG: u8 = 5;
-/// A buffer too short.
+/// A buffer can't hold what belongs in it.
 pub const BUFFER_TOO_SHORT: u8 = 6;
-/// Header isn't derived by the grammar, or nests too deep.
+/// The header isn't JSON by the grammar, or goes deeper than 8.
 pub const NOT_DERIVED: u8 = 7;
-/// One object has a name twice.
+/// An object in the header has a name twice.
 pub const NAME_TWICE: u8 = 8;
-/// A known member is missing or has the wrong kind.
+/// `alg` is missing, or a member with a meaning isn't what it must be.
 pub const WRONG_KIND: u8 = 9;
-/// Critical rule broken.
+/// `crit` breaks its rules, or `fmt` stands there and isn't listed.
 pub const CRITICAL: u8 = 10;
-/// alg isn't `HS256`.
+/// `alg` is another algorithm.
 pub const WRONG_ALG: u8 = 11;
-/// No key found.
+/// No key is found.
 pub const NO_KEY: u8 = 12;
-/// The key's HS256 bit is 0.
+/// The key doesn't allow HS256.
 pub const ALG_NOT_ALLOWED: u8 = 13;
-/// The key's formats lack this format.
+/// The key doesn't allow the format, or there is no such format.
 pub const FORMAT_NOT_ALLOWED: u8 = 14;
-/// Signature differs.
+/// The signature is another one.
 pub const SIGNATURE_DIFFERS: u8 = 15;
-/// No such member (member reader only).
+/// The header has no member k.
 pub const NO_SUCH_MEMBER: u8 = 16;

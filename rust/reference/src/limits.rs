@@ -1,8 +1,8 @@
 //! Every limit of the specification, each named once.
 
-/// Longest token, in bytes ("Numbered answers", 1).
+/// Longest token, in bytes ("Answers", 1).
 pub const TOKEN_MAX: usize = 16_384;
-/// Longest decoded header, in bytes ("Numbered answers", 5).
+/// Longest decoded header, in bytes ("Answers", 5).
 pub const HEADER_MAX: usize = 1_024;
 /// Greatest depth of arrays and objects; the top object is depth 1 ("The header grammar").
 pub const DEPTH_MAX: usize = 8;
