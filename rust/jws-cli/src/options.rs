@@ -80,7 +80,7 @@ impl Command {
     /// Runs the subcommand that the arguments name, if the linked archive is the one that this was written for. A wrong argument's message
     /// ends with where to look.
     pub fn run(&self, arguments: impl Iterator<Item = OsString>) -> Result<Answer, Failure> {
-        boundary::same(jws::BOUNDARY, jws::boundary())?;
+        boundary::same(self.name, jws::BOUNDARY, jws::boundary())?;
         let mut arguments = arguments;
         let Some(first) = arguments.next() else {
             return Err(Failure::Arguments(format!(
