@@ -173,8 +173,11 @@ fn cases(text: &str) -> Vec<Entry> {
 #[test]
 fn the_list_is_whole() {
     let list = list();
-    let numbers: Vec<u8> = list.iter().map(|entry| entry.number).collect();
-    assert_eq!(numbers, (0..17).collect::<Vec<u8>>());
+    assert!(list.len() > 1);
+    assert!(
+        list.iter().map(|entry| usize::from(entry.number)).eq(0..list.len()),
+        "{list:?}"
+    );
     for entry in &list {
         let (name, words) = (entry.name.as_ref().unwrap(), entry.words.as_ref().unwrap());
         assert!(!words.is_empty() && !name.is_empty(), "{entry:?}");

@@ -2,6 +2,8 @@
 
 mod common;
 
+use std::collections::BTreeMap;
+
 use common::{published, Folder, Ran, TOKEN};
 use jws::{HEADER_MAX, PAYLOAD_MAX, TOKEN_MAX};
 use jws_cli::encoding::base64url;
@@ -292,7 +294,7 @@ fn number(ran: &Ran) -> u8 {
 #[test]
 fn generated_calls() {
     let folder = Folder::new("calls");
-    let mut seen = [0; 17];
+    let mut seen = BTreeMap::new();
     for case in case_generator::verify_cases(71).take(CALLS) {
         let (mut header, mut payload) = ([0; HEADER_MAX], vec![0; case.payload_len]);
         let (answer, _) = reference::token::verify(&case.token, &case.table, &mut header, &mut payload);
@@ -305,7 +307,7 @@ fn generated_calls() {
             &["--room", &room, "--payload-out", "out"],
         );
         assert_eq!(number(&ran), answer, "{case:?}");
-        seen[usize::from(answer)] += 1;
+        *seen.entry(answer).or_insert(0) += 1;
     }
     for case in case_generator::sign_cases(72).take(CALLS) {
         let mut token = vec![0; case.token_len];
@@ -315,7 +317,7 @@ fn generated_calls() {
         let ran = sign(&folder, "table.bin", &case.header, &case.payload, &["--room", &room]);
         assert_eq!(number(&ran), answer, "{case:?}");
         assert_eq!(ran.out, token[..length]);
-        seen[usize::from(answer)] += 1;
+        *seen.entry(answer).or_insert(0) += 1;
     }
     for header in case_generator::headers(73).take(CALLS) {
         let ran = folder.run_on(TOKEN, &["members", "-"], &header);
@@ -326,8 +328,8 @@ fn generated_calls() {
             assert_eq!(lines, members.len());
         }
     }
-    println!("answers 0 to 16 of {CALLS} tokens verified and {CALLS} signed: {seen:?}");
-    assert!(seen[..16].iter().filter(|&&count| count > 0).count() >= 14, "{seen:?}");
+    println!("{CALLS} tokens verified and {CALLS} signed, by their answers: {seen:?}");
+    assert!(seen.len() >= 14, "{seen:?}");
 }
 
 #[cfg(target_os = "linux")]

@@ -163,6 +163,7 @@ impl FusedIterator for Members<'_> {}
 #[cfg(test)]
 mod tests {
     use super::*;
+    use crate::refusal::tests::in_order;
 
     const LEAST: [u64; 5] = [0; 5];
     const GREATEST: [u64; 5] = [u64::MAX; 5];
@@ -172,9 +173,7 @@ mod tests {
     fn every_answer() {
         for words in [LEAST, GREATEST, GOOD] {
             for number in 1..=u8::MAX {
-                let refusal = found(number, words).unwrap_err();
-                assert_eq!(refusal.number(), number);
-                assert_eq!(matches!(refusal, Refusal::Unknown(_)), number > 16);
+                assert_eq!(found(number, words), Err(in_order(number)));
             }
         }
     }

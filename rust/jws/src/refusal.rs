@@ -191,29 +191,37 @@ impl Error for Refused {
 }
 
 #[cfg(test)]
-mod tests {
+pub(crate) mod tests {
     extern crate std;
 
     use std::string::ToString;
 
     use super::*;
 
-    /// All cases with a name have the numbers from 1 on, and every other number is `Unknown`.
+    /// The refusal with a number from 1 on: the first case has 1, the next 2, and a number after the last is `Unknown`.
+    pub(crate) fn in_order(number: u8) -> Refusal {
+        let named = Refusal::ALL.get(usize::from(number) - 1);
+        named.copied().unwrap_or(Refusal::Unknown(number))
+    }
+
     #[test]
     fn every_number_is_a_refusal() {
         for number in 1..=u8::MAX {
-            let refusal = Refusal::of(number);
-            let named = Refusal::ALL.get(usize::from(number) - 1);
-            assert_eq!(refusal, named.copied().unwrap_or(Refusal::Unknown(number)));
+            let refusal = in_order(number);
             assert_eq!(refusal.number(), number);
             assert_eq!(u8::from(refusal), number);
+            assert_eq!(Refusal::of(number), refusal);
             assert_eq!(Refusal::check(number), Err(refusal));
             assert_eq!(Refused::check(number), Err(Refused { refusal }));
         }
         assert_eq!(Refusal::check(0), Ok(()));
         assert_eq!(Refused::check(0), Ok(()));
         assert_eq!(Refusal::of(0), Refusal::Unknown(0));
-        assert_eq!(Refusal::ALL.len(), 16);
+        assert_eq!(
+            [in_order(1), in_order(16)],
+            [Refusal::TokenTooLong, Refusal::NoSuchMember]
+        );
+        assert_eq!(in_order(17), Refusal::Unknown(17));
     }
 
     #[test]

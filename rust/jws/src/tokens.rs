@@ -201,6 +201,7 @@ pub fn sign(header: &[u8], payload: &[u8], table: &[u8], token: &mut [u8]) -> Re
 #[cfg(test)]
 mod tests {
     use super::*;
+    use crate::refusal::tests::in_order;
 
     const LEAST: [u64; 9] = [0; 9];
     const GREATEST: [u64; 9] = [u64::MAX; 9];
@@ -209,15 +210,12 @@ mod tests {
     #[test]
     fn every_answer() {
         for number in 1..=u8::MAX {
+            let refusal = in_order(number);
             for words in [LEAST, GREATEST, GOOD] {
-                let refusal = Refusal::from(verified(number, words).unwrap_err());
-                assert_eq!(refusal.number(), number);
-                assert_eq!(matches!(refusal, Refusal::Unknown(_)), number > 16);
+                assert_eq!(verified(number, words), Err(Refused { refusal }));
             }
             for length in [0, u64::MAX, 179] {
-                let refusal = signed(number, length).unwrap_err();
-                assert_eq!(refusal.number(), number);
-                assert_eq!(matches!(refusal, Refusal::Unknown(_)), number > 16);
+                assert_eq!(signed(number, length), Err(refusal));
             }
         }
     }

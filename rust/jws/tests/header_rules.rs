@@ -5,7 +5,7 @@ mod common;
 
 use case_generator::header;
 use case_generator::rng::Rng;
-use common::{by_answer, cases_or, raw_sign, raw_verify, reference_sign, reference_verify};
+use common::{by_answer, cases_or, raw_sign, raw_verify, reference_sign, reference_verify, NO_CALLS};
 
 const SEED: u64 = 31;
 
@@ -27,7 +27,7 @@ fn header_for(rng: &mut Rng, table: &[u8]) -> Vec<u8> {
 fn header_rules_agree() {
     let count = cases_or(10_000);
     let room = reference::token::token_len(jws::HEADER_MAX, 0);
-    let mut calls = [0; 17];
+    let mut calls = NO_CALLS;
     let (mut named, mut formats, mut texts) = ([0; 2], [0; 9], [0; 2]);
     for (case, table) in case_generator::tables(SEED).take(count).enumerate() {
         let header = header_for(&mut Rng::of_case(SEED + 1, case as u64), &table);

@@ -2,7 +2,7 @@
 
 mod common;
 
-use common::{calls_by_answer, cases, raw_member};
+use common::{calls_by_answer, cases, raw_member, NO_CALLS};
 use jws::Refusal;
 
 const SEED: u64 = 11;
@@ -22,7 +22,7 @@ fn plain(member: Result<jws::Member, Refusal>) -> (u8, [u64; 5]) {
 #[test]
 fn members_agree() {
     let mut read_headers = 0;
-    let mut calls = [0; 17];
+    let mut calls = NO_CALLS;
     let mut kinds = [0; 8];
     for (case, header) in case_generator::headers(SEED).take(cases()).enumerate() {
         let read = reference::json::read(&header);

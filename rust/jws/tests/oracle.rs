@@ -7,12 +7,12 @@ use std::io::{ErrorKind, Write as _};
 use std::process::{Command, Stdio};
 use std::thread;
 
-use common::{calls_by_answer, cases, raw_member};
+use common::{calls_by_answer, cases, raw_member, Calls, NO_CALLS};
 
 const SEED: u64 = 12;
 
 /// A line for the oracle: the header in hexadecimal, the answer, and the words of each member. Counts the calls by their answers.
-fn line(header: &[u8], calls: &mut [usize; 17]) -> String {
+fn line(header: &[u8], calls: &mut Calls) -> String {
     let mut line = String::new();
     for byte in header {
         write!(line, "{byte:02x}").unwrap();
@@ -54,7 +54,7 @@ fn the_oracle_agrees() {
     };
     let mut lines = oracle.stdin.take().unwrap();
     let writer = thread::spawn(move || {
-        let mut calls = [0; 17];
+        let mut calls = NO_CALLS;
         for header in case_generator::headers(SEED).take(cases()) {
             lines.write_all(line(&header, &mut calls).as_bytes()).unwrap();
         }

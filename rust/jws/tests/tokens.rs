@@ -5,7 +5,7 @@ mod common;
 use common::{
     by_answer, cases, one_key, raw_sign, raw_verify, reference_sign, reference_verify, safe_sign, safe_verify,
 };
-use common::{Signed, Verified};
+use common::{Calls, Signed, Verified, NO_CALLS};
 use jws::{HEADER_MAX, PAYLOAD_MAX, TOKEN_MAX};
 
 /// Verifies by the proved code, raw and safe, and by the reference, which all agree.
@@ -24,7 +24,7 @@ fn sign(header: &[u8], payload: &[u8], table: &[u8], token_len: usize) -> Signed
     expected
 }
 
-fn seen_often(calls: &[usize; 17], answers: &[usize]) {
+fn seen_often(calls: &Calls, answers: &[usize]) {
     for &answer in answers {
         assert!(
             calls[answer] >= cases() / 500,
@@ -36,7 +36,7 @@ fn seen_often(calls: &[usize; 17], answers: &[usize]) {
 
 #[test]
 fn verify_agrees() {
-    let mut calls = [0; 17];
+    let mut calls = NO_CALLS;
     for case in case_generator::verify_cases(21).take(cases()) {
         let verified = verify(&case.token, &case.table, case.header_len, case.payload_len);
         calls[usize::from(verified.answer)] += 1;
@@ -53,7 +53,7 @@ fn verify_agrees() {
 
 #[test]
 fn sign_agrees() {
-    let mut calls = [0; 17];
+    let mut calls = NO_CALLS;
     for case in case_generator::sign_cases(22).take(cases()) {
         let signed = sign(&case.header, &case.payload, &case.table, case.token_len);
         calls[usize::from(signed.answer)] += 1;

@@ -203,8 +203,13 @@ fn number<T, E: Into<Refusal>>(result: Result<T, E>) -> u8 {
     result.map_or_else(|error| error.into().number(), |_| 0)
 }
 
+/// How many calls got each answer, by its number.
+pub type Calls = [usize; 256];
+
+pub const NO_CALLS: Calls = [0; 256];
+
 /// How many calls got each of these answers, in words.
-pub fn by_answer(calls: &[usize; 17], answers: &[usize]) -> String {
+pub fn by_answer(calls: &Calls, answers: &[usize]) -> String {
     let counts: Vec<String> = answers
         .iter()
         .map(|&answer| format!("{answer}: {}", calls[answer]))
@@ -213,7 +218,7 @@ pub fn by_answer(calls: &[usize; 17], answers: &[usize]) -> String {
 }
 
 /// How many calls got each of the member reader's answers, in words.
-pub fn calls_by_answer(calls: &[usize; 17]) -> String {
+pub fn calls_by_answer(calls: &Calls) -> String {
     by_answer(calls, &[0, 5, 7, 8, 16])
 }
 
