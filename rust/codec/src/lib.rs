@@ -2,6 +2,8 @@
 //!
 //! Only tests and benchmarks use this crate. The functions below have no precondition, so that every call is safe.
 
+#![allow(unsafe_code)] // calls of the archive
+
 mod ffi {
     extern "C" {
         pub fn codec_decode(text: *const u8, text_len: usize, out: *mut u8, out_len: usize, answer: *mut [u64; 2]);

@@ -27,6 +27,7 @@
 //! ```
 
 #![no_std]
+#![allow(unsafe_code)] // calls of the archive
 // What could panic, or lose a part of a word.
 #![cfg_attr(
     not(test),

@@ -1,6 +1,8 @@
 //! `include/jws.h` from C and C++ and beside this crate's constants, the stack that a call takes, and what it leaves there. Needs the C
 //! compiler that cargo links with.
 
+#![allow(unsafe_code)] // a raw call of the archive
+
 use std::collections::BTreeMap;
 use std::io::Write;
 use std::path::{Path, PathBuf};
@@ -108,7 +110,10 @@ fn calls_from_c_and_cpp() {
                     7 0 0 0 0 0 0 0 0 0\n\
                     2 0\n\
                     0 65\n\
-                    0 15 0 0 0 1 0 0 0 0\n";
+                    0 15 0 0 0 1 0 0 0 0\n\
+                    13\n\
+                    0\n\
+                    1\n";
     let mut ran = 0;
     for (compiler, words) in [("cc", ["-x", "c", "-std=c99"]), ("c++", ["-x", "c++", "-std=c++98"])] {
         let Some(program) = compiled(compiler, &words, "calls.c") else {

@@ -47,6 +47,15 @@ static uint64_t sign(const char *header, const uint8_t *table, size_t table_leng
     return length;
 }
 
+/* The payload's length by a record that says `length`, in a buffer of `room` bytes. */
+static void payload_length(uint64_t length, size_t room)
+{
+    uint64_t record[JWS_RECORD_WORDS];
+    memset(record, 0xA5, sizeof record);
+    record[JWS_RECORD_PAYLOAD_LENGTH] = length;
+    printf("%lu\n", (unsigned long)jws_payload(record, room));
+}
+
 /* Tables of no key, and of one key whose id lies inside its secret. */
 static const uint8_t no_key[8] = {0, 1, 0, 0, 0, 0, 0, 8};
 static const uint8_t one_key[52] = {0, 1, 0, 1, 0, 0, 0, 52, 0, 20, 0, 1, 0, 20, 0, 32, 1, 1, 0, 0};
@@ -71,5 +80,8 @@ int main(void)
     sign(NULL, NULL, 0, NULL, 0);
     length = sign("{\"alg\":\"HS256\"}", one_key, sizeof one_key, token, sizeof token);
     verify(token, length, one_key, sizeof one_key, header, sizeof header);
+    payload_length(13, 13);
+    payload_length(13, 12);
+    printf("%d\n", jws_boundary() == JWS_BOUNDARY);
     return 0;
 }

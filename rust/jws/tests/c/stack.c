@@ -17,7 +17,7 @@ enum { ROOM = 1 << 16, PATTERN = 0x5A, TABLE_MAX = 8192 };
 
 static uint8_t stack[ROOM];
 static uint8_t input[JWS_TOKEN_MAX], table[TABLE_MAX];
-static uint8_t header[JWS_HEADER_MAX], payload[JWS_TOKEN_MAX], token[JWS_TOKEN_MAX];
+static uint8_t header[JWS_HEADER_MAX], payload[JWS_PAYLOAD_MAX], token[JWS_TOKEN_MAX];
 static uint64_t member[JWS_MEMBER_WORDS], record[JWS_RECORD_WORDS], token_length;
 static size_t length, table_length, k;
 static ucontext_t home, away;

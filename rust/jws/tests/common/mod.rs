@@ -1,6 +1,7 @@
 //! What the tests share.
 
 #![allow(dead_code)] // each test file uses a part of it
+#![allow(unsafe_code)] // raw calls of the archive
 
 use jws::{ffi, Refusal};
 
