@@ -11,7 +11,7 @@ pub enum Status {
     Done = 0,
     /// It refused: a token, a header, a table or a keys file is wrong.
     Refused = 1,
-    /// It couldn't be asked: wrong arguments, or a file that can't be read or written.
+    /// It couldn't be asked: wrong arguments, a file that can't be read or written, or an archive with another boundary.
     Failed = 2,
 }
 
