@@ -1,6 +1,7 @@
-// Runs headers on both sides of each rule. A line has what was run, the header's answer, and its first member or the refusal.
+// Runs headers on both sides of each rule. A line has what was run, the header's answer, and a member, the refusal or the number of members.
 use json::Member;
 use json::Place;
+use json_header_reader::Counted;
 use libc::STDOUT_FILENO;
 ghost use Prim.Native.Nat.{_≤_};
 ghost use lib.ListN.{length};
@@ -42,12 +43,17 @@ fn answer(m: Member) {
     }
 }
 
-// One line: member k of the header h.
-fn line(what: &[u8], h: &[u8], k: usize) {
+// A line begins with what is run and the header's answer.
+fn begin(what: &[u8], n: u8) {
     say(what);
     say(b": ");
-    number(json::check(h) as usize);
-    answer(json_header_reader::member_at(h, k));
+    number(n as usize);
+}
+
+// One line: member k of the header h.
+fn line(what: &[u8], h: &[u8], k: usize) {
+    begin(what, json::check(h));
+    answer(json::member(h, k));
     say(b"\n");
 }
 
@@ -73,8 +79,16 @@ fn row(text: &[u8]) {
     }
 }
 
+// One line: what is counted of a header.
+fn total(what: &[u8], c: Counted) {
+    begin(what, c.answer);
+    say(b" counted ");
+    number(c.members);
+    say(b"\n");
+}
+
 // A line for each of the first n members.
-fn members(what: &[u8], h: &[u8], n: usize) {
+fn first_members(what: &[u8], h: &[u8], n: usize) {
     let mut k = 0;
     while k < n {
         line(what, h, k);
@@ -82,25 +96,56 @@ fn members(what: &[u8], h: &[u8], n: usize) {
     }
 }
 
-// The header {"x":"aa..a"} of n bytes.
-fn long(what: &[u8], n: usize) {
-    let mut h = [0x61u8; 1100];
-    if n <= 1100 {
-        if 8 <= n {
-            h[0] = 0x7B;
-            h[1] = 0x22;
-            h[2] = 0x78;
-            h[3] = 0x22;
-            h[4] = 0x3A;
-            h[5] = 0x22;
-            h[n - 2] = 0x22;
-            h[n - 1] = 0x7D;
-            line(what, &h[..n], 0);
-        }
+// A line for what is counted of a header, one for each member, and one for the number after the last.
+fn members(what: &[u8], h: &[u8]) {
+    let c = json_header_reader::count(h);
+    total(what, c);
+    first_members(what, h, c.members);
+    line(what, h, c.members);
+}
+
+// The byte at place i of the header {"x":"aa..a"} of n bytes.
+fn long_byte(i: usize, n: usize) -> u8 {
+    if n <= i {
+        return 0x20;
+    }
+    let left = n - i;
+    match left {
+        1 => 0x7D,
+        2 => 0x22,
+        _ => match i {
+            0 => 0x7B,
+            1 | 3 | 5 => 0x22,
+            2 => 0x78,
+            4 => 0x3A,
+            _ => 0x61,
+        },
     }
 }
 
-// The same of a whole array.
+// A row for the first n bytes of a slice, and of an array.
+fn part_row(what: &[u8], h: &[u8], n: usize) {
+    if n <= h.len() {
+        line(what, &h[..n], 0);
+    }
+}
+
+fn long_row(what: &[u8], h: &[u8; 1100], n: usize) {
+    part_row(what, &h[..], n);
+}
+
+// A row for that header.
+fn long(what: &[u8], n: usize) {
+    let mut h = [0x20u8; 1100];
+    let mut i = 0;
+    while i < 1100 {
+        h[i] = long_byte(i, n);
+        i += 1;
+    }
+    long_row(what, &h, n);
+}
+
+// The same of a whole array of 1,024 bytes.
 fn filled_row(what: &[u8], h: &[u8; 1024]) {
     line(what, &h[..], 0);
 }
@@ -171,17 +216,16 @@ fn lengths() {
 
 // The text is one object.
 fn tops() {
-    row(b"no members:  { } ");
+    members(b"no members", b" { } ");
     row(b"an array at the top: []");
     row(b"bytes after the text: {}x");
 }
 
-// A member of each kind, and one more that is not there.
+// A member of each kind.
 fn kinds() {
     members(
         b"every kind",
         b" {\"s\" : \"\" , \"n\":-1.5e+2, \"t\":true,\"f\": false ,\"u\":null,\"a\": [ 1 , 2 ] ,\"o\": { } } ",
-        8,
     );
 }
 
@@ -196,12 +240,16 @@ fn values() {
     row(b"vertical tab: {\"x\":\x0B1}");
 }
 
-// Escapes, and surrogates that are escaped.
+// Escapes.
 fn escapes() {
     row(b"every short escape: {\"x\":\"\\\"\\\\\\/\\b\\f\\n\\r\\t\"}");
     row(b"another escape: {\"x\":\"\\a\"}");
     row(b"hexadecimal digits: {\"x\":\"\\u09AF\"}");
     row(b"small hexadecimal digits: {\"x\":\"\\u09af\"}");
+}
+
+// Surrogates that are escaped.
+fn surrogates() {
     row(b"a surrogate pair: {\"x\":\"\\uD834\\uDD1E\"}");
     row(b"a high surrogate alone: {\"x\":\"\\uD834\"}");
     row(b"a high surrogate twice: {\"x\":\"\\uD834\\uD834\"}");
@@ -238,16 +286,20 @@ fn marks() {
     row(b"a byte order mark in a string: {\"x\":\"\xEF\xBB\xBF\"}");
 }
 
-// Names in one object and in several.
+// Names in one object.
 fn names() {
-    row(b"one name twice: {\"x\":1,\"x\":2}");
+    members(b"one name twice", b"{\"x\":1,\"x\":2}");
     row(b"names of different case: {\"x\":1,\"X\":2}");
     row(b"one name twice, by an escape: {\"\\uD834\\uDD1E\":1,\"\xF0\x9D\x84\x9E\":2}");
+    row(b"the empty name twice: {\"\":1,\"\":2}");
+    row(b"a name twice, then no end: {\"x\":1,\"x\":2");
+}
+
+// Names in several objects.
+fn nested_names() {
     row(b"one name twice in a nested object: {\"x\":[0,{\"y\":{\"z\":1,\"w\":2,\"z\":3}}]}");
     row(b"one name in two objects: {\"x\":{\"y\":1},\"y\":{\"x\":1}}");
     row(b"braces in a string: {\"x\":\"{\\\"y\\\":1,\\\"y\\\":2}\"}");
-    row(b"the empty name twice: {\"\":1,\"\":2}");
-    row(b"a name twice, then no end: {\"x\":1,\"x\":2");
 }
 
 // Names within a block of the search, and past it.
@@ -259,17 +311,29 @@ fn blocks() {
     many(b"120 names, the last as the first", 120, true);
 }
 
-fn main() {
+// The rules of texts and of the values in them.
+fn texts() {
     depths();
     lengths();
     tops();
     kinds();
     values();
+}
+
+// The rules of strings.
+fn strings() {
     escapes();
+    surrogates();
     controls();
     octets();
     four_octets();
     marks();
+}
+
+fn main() {
+    texts();
+    strings();
     names();
+    nested_names();
     blocks();
 }

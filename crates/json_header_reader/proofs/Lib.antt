@@ -1,3 +1,2 @@
 -- What the walks of this crate share.
 pub mod Held
-pub mod Follow

@@ -1,2 +1,4 @@
--- The number of the member after a given one.
+-- The number of the member after a given one, and how many members a header has.
 pub mod Following
+pub mod Counting
+pub mod CountLaws

@@ -1,19 +1,28 @@
-// A reader that holds a header and the number of a member, over the member reader on bytes and number.
+// A reader that holds a header and the number of a member, over the member reader on bytes and number; and the members counted by it.
+use answers::DONE;
+use answers::NO_SUCH_MEMBER;
 use json::Member;
 ghost use mathlib.Core.Path.{_≡_};
+ghost use Rattle.json_rules.specs.Answers.{numberOf};
 ghost use Rattle.json_rules.specs.Tests.{memberOf};
 ghost use Rattle.json_header_reader.specs.Following.{followingOf};
+ghost use Rattle.json_header_reader.specs.Counting.{endedAt, countOf};
 
 pub struct HeaderReader<'a> {
     pub header: &'a [u8],
     pub at: usize,
 }
 
+// What a header answers, and the number of members of its top object, 0 if it is refused.
+pub struct Counted {
+    pub answer: u8,
+    pub members: usize,
+}
+
 const GREATEST: usize = 18446744073709551615;
 
 // The number of the next member; the greatest number stays where it is.
-// Rules out a wrap to 0, which would show the first member again, and a number left out.
-pub fn following(k: usize) -> usize
+fn following(k: usize) -> usize
     ensures { λ r. ⌜ r ≡ followingOf k ⌝ }
 {
     if k < GREATEST {
@@ -30,53 +39,67 @@ pub fn new<'a>(header: &'a [u8]) -> HeaderReader<'a>
     HeaderReader { header, at: 0 }
 }
 
-// The number of the member that the reader is at.
-// Rules out the number of the next member, and 0 for every reader.
-pub fn at<'a>(r: HeaderReader<'a>) -> usize
-    ensures { λ n. ⌜ n ≡ r .entry .at ⌝ }
-{
-    r.at
-}
-
-// The header that the reader holds.
-// Rules out a part of it, and other bytes.
-pub fn header<'a>(r: HeaderReader<'a>) -> &'a [u8]
-    ensures { λ s. ⌜ s ≡ r .entry .header ⌝ }
-{
-    r.header
-}
-
 // The member that the reader is at; 16 past the last; 5, 7 or 8 if the header isn't read.
-// Rules out the first member wherever the reader is, and the member after the one that it is at.
+// Rules out the first member wherever the reader is, and 16 for a reader that is at a member.
 pub fn member<'a>(r: HeaderReader<'a>) -> Member
     ensures { λ m. ⌜ m ≡ memberOf (now (r .entry .header)) (r .entry .at) ⌝ }
 {
-    json::member(r.header, r.at)
+    let header = r.header;
+    let at = r.at;
+    json::member(header, at)
 }
 
-// A reader of the same header at the next member.
-// Rules out one that stays at its member, and one that holds another header.
-pub fn moved<'a>(r: HeaderReader<'a>) -> HeaderReader<'a>
-    ensures { λ q. ⌜ (q .header ≡ r .entry .header) × (q .at ≡ followingOf (r .entry .at)) ⌝ }
-{
-    HeaderReader {
-        header: r.header,
-        at: following(r.at),
-    }
-}
-
-// The same in place.
-// Rules out a reader that is left as it was, and one that goes back to the first member.
+// The reader moves to the next member.
+// Rules out a reader that is left as it was, and one that goes back to the second member.
 pub fn next<'s, 'a>(r: &'s mut HeaderReader<'a>)
     ensures { λ _. ⌜ (now (r .exit) .header ≡ now (r .entry) .header) × (now (r .exit) .at ≡ followingOf (now (r .entry) .at)) ⌝ }
 {
     r.at = following(r.at);
 }
 
-// Member k of a header, by a reader at k: whoever calls it needs no proof about a reader.
-// Rules out the first member for every k, and the member after k.
-pub fn member_at(header: &[u8], k: usize) -> Member
-    ensures { λ m. ⌜ m ≡ memberOf (now (header .entry)) k ⌝ }
+// The number of a member reader's answer: 0 for a member.
+fn number(m: Member) -> u8
+    ensures { λ r. ⌜ r ≡ numberOf m ⌝ }
 {
-    member(HeaderReader { header, at: k })
+    match m {
+        Member::String(_, _) => DONE,
+        Member::Number(_, _) => DONE,
+        Member::True(_, _) => DONE,
+        Member::False(_, _) => DONE,
+        Member::Null(_, _) => DONE,
+        Member::Array(_, _) => DONE,
+        Member::Object(_, _) => DONE,
+        Member::Refused(n) => n,
+    }
+}
+
+// What is counted where a reader at member k stops by the answer n: 16 is past the last member, any other is the header's refusal.
+fn stopped(n: u8, k: usize) -> Counted
+    ensures { λ r. ⌜ r ≡ endedAt n k ⌝ }
+{
+    if n == NO_SUCH_MEMBER {
+        return Counted {
+            answer: DONE,
+            members: k,
+        };
+    }
+    Counted {
+        answer: n,
+        members: 0,
+    }
+}
+
+// What a header answers and how many members its top object has: a reader goes from the first member until there is no other.
+// Rules out no member for a header that has some, and the answer 0 for one that is refused.
+pub fn count(header: &[u8]) -> Counted
+    ensures { λ r. ⌜ r ≡ countOf (now (header .entry)) ⌝ }
+{
+    let mut r = new(header);
+    loop {
+        let n = number(member(r));
+        if n != DONE {
+            return stopped(n, r.at);
+        }
+        next(&mut r);
+    }
 }

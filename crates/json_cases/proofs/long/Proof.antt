@@ -1,20 +1,16 @@
 -- `long` meets its contract.
-use native.Mathlib.Omega.{arith}
-use lib.ListN.{length-take, length-set}
+use Prim.Native.Nat.{_-_}
 use borrow.Author.Needs.{needs}
 use Rattle.json_cases.proofs.long.Statement.{statement}
 use Rattle.json_cases.proofs.long.Tie as tie
 
-slice-aggregate-line : tie.Need-slice-aggregate-line
-slice-aggregate-line c = simp (length-take, length-set) (omega arith)
+abbrev Inv-loop : tie.InvT-loop
+Inv-loop what n h₀ i₀ h i = Unit {0}
+
+abbrev μ-loop : tie.MeasureT-loop
+μ-loop what n h₀ i₀ h i = 1100 - i
 
 pub long-spec : {M : Type 1} → statement M
 long-spec =
     tie.close
-    (tie.spec
-    (λ c. search needs) (λ c. search needs) (λ c. search needs) (λ c. search needs) (λ c. search needs)
-    (λ c. search needs) (λ c. search needs) (λ c. search needs) (λ c. search needs) (λ c. search needs)
-    (λ c. search needs)
-    slice-aggregate-line
-    (λ c κs. search needs) (λ c. search needs) (λ c. search needs)
-    (λ c. search needs))
+    (tie.spec Inv-loop μ-loop (λ c. tt) (λ c κs. search needs) (λ c. search needs) (λ c. search needs) (λ c. search needs) (λ c. tt) (λ c κs. search needs) (λ c. search needs))
