@@ -174,6 +174,19 @@ unicode-escapes : ReadsString (ascii "\\u00E9\\u0000") (0xE9 ∷ 0 ∷ []) × Re
 unfolding reading header
 unicode-escapes = (refl, refl, refl, refl, refl, refl, refl, refl)
 
+-- both ends of a first half, D800 to DBFF, and of a second, DC00 to DFFF; D7FF and E000 are no halves
+surrogate-pairs : ReadsString (ascii "\\uD7FF") (0xD7FF ∷ []) × ReadsString (ascii "\\uE000") (0xE000 ∷ [])
+    × ReadsString (ascii "\\uD800\\uDC00") (0x10000 ∷ []) × ReadsString (ascii "\\uD800\\uDFFF") (0x103FF ∷ [])
+    × ReadsString (ascii "\\uDBFF\\uDC00") (0x10FC00 ∷ []) × ReadsString (ascii "\\uDBFF\\uDFFF") (0x10FFFF ∷ [])
+unfolding reading header
+surrogate-pairs = (refl, refl, refl, refl, refl, refl)
+
+-- a half alone; a first half with no second behind it; two second halves
+no-surrogate-pairs : BadString (ascii "\\uD800") × BadString (ascii "\\uDBFF") × BadString (ascii "\\uDC00") × BadString (ascii "\\uDFFF")
+    × BadString (ascii "\\uD800\\uDBFF") × BadString (ascii "\\uD800\\uE000") × BadString (ascii "\\uDC00\\uDC00")
+unfolding reading header
+no-surrogate-pairs = (refl, refl, refl, refl, refl, refl, refl)
+
 -- the first and the last of each form: U+0080, U+07FF, U+0800, U+D7FF, U+E000, U+FFFF, U+10000, U+10FFFF
 utf8 : ReadsString (0xC2 ∷ 0x80 ∷ 0xDF ∷ 0xBF ∷ []) (0x80 ∷ 0x7FF ∷ [])
     × ReadsString (0xE0 ∷ 0xA0 ∷ 0x80 ∷ 0xED ∷ 0x9F ∷ 0xBF ∷ []) (0x800 ∷ 0xD7FF ∷ [])
