@@ -1,9 +1,9 @@
-// Compact tokens (RFC 7515 section 7.1) with HS256: verifying, and the payload.
+// Compact tokens (RFC 7515 section 7.1) with HS256: verifying.
 mod judging; // judging.rt: the rules of verifying, phase by phase
 
 ghost use mathlib.Core.Path.{_≡_};
 ghost use Rattle.jws_rules.specs.Calls.{verifyCall};
-ghost use Rattle.jws_rules.specs.Outcomes.{given, partLength, payload};
+ghost use Rattle.jws_rules.specs.Outcomes.{given};
 ghost use Rattle.jws_rules.specs.Tests.{verified};
 pub use jws_rules::Record;
 pub use jws_rules::Verified;
@@ -19,24 +19,4 @@ pub fn verify(token: &[u8], table: &[u8], header: &mut [u8], payload: &mut [u8])
     common::zero(&mut header[n..]);
     common::zero(&mut payload[m..]);
     v
-}
-
-// The payload as a part of the buffer that verifying filled; an empty part if the record's length doesn't fit.
-// Rules out the header's length in its place, and a part that begins at another byte than the buffer's first.
-pub fn payload(details: Record, buffer: &[u8]) -> &[u8]
-    ensures { λ r. ⌜ now r ≡ payload details (now (buffer .entry)) ⌝ }
-{
-    let n = part_length(details.payload_length, buffer.len());
-    &buffer[0..n]
-}
-
-// How long that part is, by the record's length and the buffer's.
-// Rules out a payload that fills the buffer refused, and the buffer's length for a payload that doesn't fit.
-pub fn part_length(asked: usize, room: usize) -> usize
-    ensures { λ r. ⌜ r ≡ partLength asked room ⌝ }
-{
-    if asked <= room {
-        return asked;
-    }
-    0
 }

@@ -54,7 +54,7 @@ pub extern "C" fn jws_verify(
 pub extern "C" fn jws_payload(words: &[u64; 9], room: usize) -> u64
     ensures { λ r. ⌜ r ≡ payloadWord (now (words .entry)) room ⌝ }
 {
-    jws::part_length(words[1] as usize, room) as u64
+    jws_payload::part_length(words[1] as usize, room) as u64
 }
 
 // Signs a header and a payload: 0, the token and its length, or the refusal's number with all that is lent for writing zeroed.

@@ -2,8 +2,8 @@
 use borrow.Author.Tests.{le-leb, lt-leb}
 use native.Mathlib.Omega.{arith}
 use Rattle.jws_rules.specs.Outcomes.{partLength}
-use Rattle.jws.proofs.part_length.Statement.{statement}
-use Rattle.jws.proofs.part_length.Tie as tie
+use Rattle.jws_payload.proofs.part_length.Statement.{statement}
+use Rattle.jws_payload.proofs.part_length.Tie as tie
 
 returns : tie.Need-returns
 unfolding partLength

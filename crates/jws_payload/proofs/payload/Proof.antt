@@ -5,8 +5,8 @@ use native.Mathlib.Omega.{arith}
 use lib.ListN.{length}
 use borrow.Author.Needs.{needs}
 use Rattle.jws_rules.specs.Promises.{part-within}
-use Rattle.jws.proofs.payload.Statement.{statement}
-use Rattle.jws.proofs.payload.Tie as tie
+use Rattle.jws_payload.proofs.payload.Statement.{statement}
+use Rattle.jws_payload.proofs.payload.Tie as tie
 
 part-result-end : tie.Need-part-result-end
 part-result-end c = let a = c .before .before .args in omega (arith, c .part-length .ensures, part-within (a .details .«payload_length») (length (a .buffer .now)))
