@@ -60,6 +60,13 @@ verify-answers q = rw verify-number (in-range (verify-agree q))
 pub sign-answers : (q : SignCall) → among (signAnswer q) (0 ∷ 2 ∷ 5 ∷ 7 ∷ 8 ∷ 9 ∷ 10 ∷ 11 ∷ 12 ∷ 13 ∷ 14 ∷ 1 ∷ 6 ∷ []) ≡ true
 sign-answers q = rw sign-number (in-range (sign-agree q))
 
+-- The record of a refusal has a 0 in each place.
+pub zero-record :
+    (zeroRecord .«header_length» ≡ 0) × (zeroRecord .«payload_length» ≡ 0) × (zeroRecord .choice .«key_index» ≡ 0) × (zeroRecord .choice .«kid_present» ≡ false)
+    × (zeroRecord .choice .format ≡ 0) × (zeroRecord .choice .typ .start ≡ 0) × (zeroRecord .choice .typ .length ≡ 0)
+    × (zeroRecord .choice .cty .start ≡ 0) × (zeroRecord .choice .cty .length ≡ 0)
+zero-record = (refl, refl, refl, refl, refl, refl, refl, refl, refl)
+
 -- Where the answer isn't 0: the record is all zeros, and each lent buffer is zeros end to end; ..
 pub verify-zeros : (q : VerifyCall) → (verifyAnswer q ≡ 0 → ⊥)
     → (verified q .gives .details ≡ zeroRecord) × (verified q .header ≡ replicate (q .headerRoom) 0) × (verified q .payload ≡ replicate (q .payloadRoom) 0)
