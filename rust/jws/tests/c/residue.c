@@ -7,20 +7,14 @@
  * First the answer; then for each HEX the longest run of its bytes that stands in the stack, after the call and after clearing. The first
  * HEX is left there by the caller of the call: a search that finds nothing is so told from a stack with nothing in it.
  */
-#include "jws.h"
+#include "own_stack.h"
 
-#include <stdio.h>
-#include <string.h>
-#include <ucontext.h>
+enum { BYTES_MAX = 64, HEX_MAX = 32 };
 
-enum { ROOM = 1 << 14, TABLE_MAX = 8192, BYTES_MAX = 64, HEX_MAX = 32 };
-
-static uint8_t stack[ROOM];
-static uint8_t input[JWS_TOKEN_MAX], table[TABLE_MAX];
+static uint8_t input[JWS_TOKEN_MAX];
 static uint8_t header[JWS_HEADER_MAX], payload[JWS_PAYLOAD_MAX], token[JWS_TOKEN_MAX];
 static uint64_t record[JWS_RECORD_WORDS], token_length;
-static size_t length, table_length;
-static ucontext_t home, away;
+static size_t length;
 static uint8_t answer;
 
 static uint8_t bytes[HEX_MAX][BYTES_MAX];
@@ -46,17 +40,6 @@ static void call_sign(void)
     volatile uint8_t left[BYTES_MAX];
     leave(left);
     answer = jws_sign(input, length, payload, 0, table, table_length, token, sizeof token, &token_length);
-}
-
-static void run(void (*call)(void))
-{
-    memset(stack, 0x5A, sizeof stack);
-    getcontext(&away);
-    away.uc_stack.ss_sp = stack;
-    away.uc_stack.ss_size = sizeof stack;
-    away.uc_link = &home;
-    makecontext(&away, call, 0);
-    swapcontext(&home, &away);
 }
 
 /* Past the compiler, which could leave out stores that nothing reads. */
@@ -97,12 +80,9 @@ int main(int count, char **words)
 {
     size_t found[HEX_MAX];
     int i;
-    FILE *file = count < 4 || count > 3 + HEX_MAX ? NULL : fopen(words[2], "rb");
-    if (file == NULL) {
+    if (count < 4 || count > 3 + HEX_MAX || !read_table(words[2])) {
         return 2;
     }
-    table_length = fread(table, 1, sizeof table, file);
-    fclose(file);
     length = fread(input, 1, sizeof input, stdin);
     count -= 3;
     for (i = 0; i < count; i++) {

@@ -6,21 +6,14 @@
  *     stack verify FILE  standard input: the token; FILE: the key table
  *     stack sign FILE    standard input: the header; the payload is empty
  */
-#include "jws.h"
+#include "own_stack.h"
 
-#include <stdio.h>
 #include <stdlib.h>
-#include <string.h>
-#include <ucontext.h>
 
-enum { ROOM = 1 << 16, PATTERN = 0x5A, TABLE_MAX = 8192 };
-
-static uint8_t stack[ROOM];
-static uint8_t input[JWS_TOKEN_MAX], table[TABLE_MAX];
+static uint8_t input[JWS_TOKEN_MAX];
 static uint8_t header[JWS_HEADER_MAX], payload[JWS_PAYLOAD_MAX], token[JWS_TOKEN_MAX];
 static uint64_t member[JWS_MEMBER_WORDS], record[JWS_RECORD_WORDS], token_length;
-static size_t length, table_length, k;
-static ucontext_t home, away;
+static size_t length, k;
 static volatile uintptr_t frame;
 static volatile uint8_t answer;
 
@@ -47,28 +40,11 @@ static void call_sign(void)
 static size_t taken(void (*call)(void))
 {
     size_t at = 0;
-    memset(stack, PATTERN, sizeof stack);
-    getcontext(&away);
-    away.uc_stack.ss_sp = stack;
-    away.uc_stack.ss_size = sizeof stack;
-    away.uc_link = &home;
-    makecontext(&away, call, 0);
-    swapcontext(&home, &away);
+    run(call);
     while (at < ROOM && stack[at] == PATTERN) {
         at++;
     }
     return frame - (uintptr_t)(stack + at);
-}
-
-static int read_table(const char *name)
-{
-    FILE *file = fopen(name, "rb");
-    if (file == NULL) {
-        return 0;
-    }
-    table_length = fread(table, 1, sizeof table, file);
-    fclose(file);
-    return 1;
 }
 
 /* Prints the answer and the bytes of stack. */
