@@ -39,7 +39,7 @@ const INSIDE: usize = DEEPEST - 1;
 pub fn decide(header: &[u8], table: &[u8]) -> Decision
     ensures { λ r. ⌜ r ≡ decision (now (header .entry)) (now (table .entry)) ⌝ }
 {
-    if keytable::good(table) {
+    if keytable_check::good(table) {
         if LONGEST < header.len() {
             return Decision::Refused(HEADER_TOO_LONG);
         }

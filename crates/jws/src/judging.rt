@@ -164,7 +164,7 @@ pub(crate) fn judge(token: &[u8], table: &[u8], header: &mut [u8], payload: &mut
     if TOKEN_MOST < token.len() {
         return refusal(TOKEN_TOO_LONG);
     }
-    if !keytable::good(table) {
+    if !keytable_check::good(table) {
         return refusal(BAD_TABLE);
     }
     let Cut::At(a, b) = split(token) else {

@@ -1,57 +1,17 @@
-// The key table: whether its bytes are in order, and the keys that they mean. The table is read at each call, straight from its bytes;
-// ids and secrets are handed on as parts of it. Only `good` takes any bytes; the others ask for a table that isn't bad.
-mod area;
-mod entries;
-mod limits;
-
+// The keys that a table's bytes mean. The table is read at each call, straight from its bytes; ids and secrets are handed on as parts of it.
+// Every function asks for a table that isn't bad (`keytable_check::good`).
 ghost use mathlib.Core.Path.{_≡_};
-ghost use mathlib.Core.Bool.{false, not};
+ghost use mathlib.Core.Bool.{false};
 ghost use Prim.Native.Nat.{_+_, _≤_, _<_};
 ghost use lib.ListN.{length, getD};
 ghost use Rattle.keytable_rules.specs.Key.{key, allowsHS256, allowsFormat, find, only};
 ghost use Rattle.keytable_rules.specs.Table.{entrySize, entryPlace, badTable, keys};
-use crate::area::area;
-use crate::area::same;
-use crate::entries::entry_at;
-use crate::entries::good_entries;
-use crate::entries::id_of;
-use crate::entries::new_ids;
 use common::number2_at;
-use common::number4_at;
+use keytable_areas::area;
+use keytable_areas::entry_at;
+use keytable_areas::id_of;
+use keytable_areas::same;
 pub use keytable_rules::Found;
-
-// Whether the table is in order. Rules out a table let through though its total length isn't the lent one, and one refused or let
-// through because its ids are compared by their first bytes only.
-pub fn good(table: &[u8]) -> bool
-    ensures { λ r. ⌜ r ≡ not (badTable (now (table .entry))) ⌝ }
-{
-    if table.len() < limits::TABLE_LEAST {
-        return false;
-    }
-    if limits::TABLE_MOST < table.len() {
-        return false;
-    }
-    if number2_at(table, 0) != 1 {
-        return false;
-    }
-    let n = number2_at(table, 2) as usize;
-    if limits::KEYS_MOST < n {
-        return false;
-    }
-    let total = number4_at(table, 4) as usize;
-    if total != table.len() {
-        return false;
-    }
-    let first = entry_at(n);
-    if total < first {
-        return false;
-    }
-    if good_entries(table, n, first) {
-        new_ids(table, n)
-    } else {
-        false
-    }
-}
 
 // How many keys there are. Rules out the edition in its place, and a count read one byte on.
 pub fn count(table: &[u8]) -> usize
