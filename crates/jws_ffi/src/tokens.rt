@@ -1,34 +1,9 @@
 // Verifying, the payload and signing: answers as numbers, a record as nine words, a payload's and a token's length as a word.
-use jws::Record;
+use jws_words::words_of;
 ghost use mathlib.Core.Path.{_≡_};
-ghost use mathlib.Core.Bool.{cond};
 ghost use Rattle.jws_rules.specs.Calls.{verifyCall, signCall};
 ghost use Rattle.jws_rules.specs.Tests.{verified, signed};
-ghost use Rattle.jws_ffi.specs.Words.{recordWords, verifyGives, verifyWords, payloadWord, signGives, signWords};
-
-fn word_of(b: bool) -> u64
-    ensures { λ r. ⌜ r ≡ cond b 1 0 ⌝ }
-{
-    if b { 1 } else { 0 }
-}
-
-fn words_of(details: Record) -> [u64; 9]
-    ensures { λ r. ⌜ r ≡ recordWords details ⌝ }
-{
-    let choice = details.choice;
-    let present = word_of(choice.kid_present);
-    [
-        details.header_length as u64,
-        details.payload_length as u64,
-        choice.key_index as u64,
-        present,
-        choice.format as u64,
-        choice.typ.start as u64,
-        choice.typ.length as u64,
-        choice.cty.start as u64,
-        choice.cty.length as u64,
-    ]
-}
+ghost use Rattle.jws_words.specs.Words.{verifyGives, verifyWords, payloadWord, signGives, signWords};
 
 // Verifies a token: 0, its record and its two parts, or the refusal's number with all that is lent for writing zeroed.
 // Rules out the key's index and the payload's length exchanged, and words that a refusal leaves as they were.
@@ -54,7 +29,7 @@ pub extern "C" fn jws_verify(
 pub extern "C" fn jws_payload(words: &[u64; 9], room: usize) -> u64
     ensures { λ r. ⌜ r ≡ payloadWord (now (words .entry)) room ⌝ }
 {
-    jws_payload::part_length(words[1] as usize, room) as u64
+    jws_words::payload_word(words, room)
 }
 
 // Signs a header and a payload: 0, the token and its length, or the refusal's number with all that is lent for writing zeroed.

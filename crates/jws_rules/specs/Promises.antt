@@ -1,5 +1,5 @@
--- The promises of verifying, signing and the payload call, for all inputs, as theorems on `verified`, `signed` and `payload`. The functions stand in crates `jws` and
--- `jws_signing`; their contracts say that they give exactly these. q: what a call is lent (Calls).
+-- The promises of verifying, signing and the payload call, for all inputs, as theorems on `verified`, `signed` and `payload`. The functions stand in crates `jws`,
+-- `jws_payload` and `jws_signing`; their contracts say that they give exactly these. q: what a call is lent (Calls).
 use mathlib.Core.Path.{_≡_, refl, sym, ap, _∙_}
 use mathlib.Core.Logic.{_⊎_, _↔_, ⊎-elim}
 use mathlib.Core.Bool.{Bool, true, false, cond}

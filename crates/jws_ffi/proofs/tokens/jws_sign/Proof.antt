@@ -1,7 +1,7 @@
 -- `jws_sign` meets its contract: the number, the length and the buffer are those of jws's answer.
 use mathlib.Core.Path.{ap}
 use borrow.Author.Needs.{needs}
-use Rattle.jws_ffi.specs.Words.{signWords}
+use Rattle.jws_words.specs.Words.{signWords}
 use Rattle.jws_ffi.proofs.tokens.jws_sign.Statement.{statement}
 use Rattle.jws_ffi.proofs.tokens.jws_sign.Tie as tie
 

@@ -1,7 +1,7 @@
 -- `jws_verify` meets its contract: the number, the words and the buffers are those of jws's answer.
 use mathlib.Core.Path.{ap}
 use borrow.Author.Needs.{needs}
-use Rattle.jws_ffi.specs.Words.{verifyWords}
+use Rattle.jws_words.specs.Words.{verifyWords}
 use Rattle.jws_ffi.proofs.tokens.jws_verify.Statement.{statement}
 use Rattle.jws_ffi.proofs.tokens.jws_verify.Tie as tie
 

@@ -1,10 +1,10 @@
 -- `answer_of` meets its contract: in each case the definitions compute to what the arm writes.
 use mathlib.Core.Path.{refl}
 use Rattle.json_rules.specs.Answers.{numberOf, valuesOf, kindNumber}
-use Rattle.jws_ffi.specs.Words.{memberWords, foundWords}
+use Rattle.jws_words.specs.Words.{memberWords, foundWords}
 use borrow.Author.Needs.{needs}
-use Rattle.jws_ffi.proofs.members.answer_of.Statement.{statement}
-use Rattle.jws_ffi.proofs.members.answer_of.Tie as tie
+use Rattle.jws_words.proofs.members.answer_of.Statement.{statement}
+use Rattle.jws_words.proofs.members.answer_of.Tie as tie
 
 pub answer-of-spec : {M : Type 1} → statement M
 unfolding numberOf memberWords foundWords valuesOf kindNumber

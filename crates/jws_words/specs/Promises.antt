@@ -14,7 +14,7 @@ use Rattle.jws_rules.specs.Calls.{VerifyCall, SignCall}
 use Rattle.jws_rules.specs.Outcomes.{payload, partLength}
 use Rattle.jws_rules.specs.Tests.{verified, signed}
 use Rattle.jws_rules.specs.Promises.{verify-zeros, sign-zeros, part-within}
-use Rattle.jws_ffi.specs.Words.{recordWords, verifyGives, verifyWords, signGives, signWords, foundWords, memberWords, payloadWord}
+use Rattle.jws_words.specs.Words.{recordWords, verifyGives, verifyWords, signGives, signWords, foundWords, memberWords, payloadWord}
 
 -- jws_verify: the nine words and both buffers
 pub verify-words-zero : (q : VerifyCall) → (verifyWords (verified q) .number ≡ 0 → ⊥)
