@@ -14,7 +14,7 @@ PKGCONFIG = target/jws.pc
 
 # What the archive is proved and compiled from, and what the commands are.
 PROVED := crates.txt $(shell find crates -name '*.rt' -o -name '*.antt')
-CALLING := rust/Cargo.toml rust/Cargo.lock rust/tools/aligned_archive.sh $(shell find rust/jws/src rust/jws/build.rs rust/jws/Cargo.toml \
+CALLING := rust/Cargo.toml rust/Cargo.lock rust/tools/aligned_archive.sh rust/tools/archive.rs $(shell find rust/jws/src rust/jws/build.rs rust/jws/Cargo.toml \
     rust/jws-cli/src rust/jws-cli/Cargo.toml -type f)
 
 # What `make install` writes, below DESTDIR.
