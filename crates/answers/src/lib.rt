@@ -2,37 +2,37 @@
 ghost use mathlib.Core.Path.{_≡_};
 ghost use mathlib.Core.List.{[], _∷_};
 
-// Accepted, signed, or the member found.
+// Done.
 pub const DONE: u8 = 0;
 
-// The token is longer than its limit.
+// The token has more than 16,384 bytes.
 pub const TOKEN_TOO_LONG: u8 = 1;
 
-// The key table is bad.
+// The table is bad.
 pub const BAD_TABLE: u8 = 2;
 
-// The token hasn't exactly two periods.
+// There are fewer than two periods, or more.
 pub const NOT_TWO_PERIODS: u8 = 3;
 
-// A segment isn't strict base64url.
+// One of the three segments isn't strict.
 pub const NOT_BASE64URL: u8 = 4;
 
-// The header is longer than its limit.
+// The header has more than 1,024 bytes.
 pub const HEADER_TOO_LONG: u8 = 5;
 
-// A buffer is shorter than what it must hold.
+// A buffer can't hold what belongs in it.
 pub const BUFFER_TOO_SHORT: u8 = 6;
 
-// The header isn't derived by the grammar within the depth.
+// The header isn't JSON by the grammar, or goes deeper than 8.
 pub const NOT_DERIVED: u8 = 7;
 
-// One object of the header has a name twice.
+// An object in the header has a name twice.
 pub const NAME_TWICE: u8 = 8;
 
-// A known member is missing or has the wrong kind.
+// `alg` is missing, or a member with a meaning isn't what it must be.
 pub const WRONG_KIND: u8 = 9;
 
-// A critical rule is broken.
+// `crit` breaks its rules, or `fmt` stands there and isn't listed.
 pub const CRITICAL: u8 = 10;
 
 // `alg` is another algorithm.
@@ -41,7 +41,7 @@ pub const WRONG_ALG: u8 = 11;
 // No key is found.
 pub const NO_KEY: u8 = 12;
 
-// The key doesn't allow the algorithm.
+// The key doesn't allow HS256.
 pub const ALG_NOT_ALLOWED: u8 = 13;
 
 // The key doesn't allow the format, or there is no such format.
@@ -50,7 +50,7 @@ pub const FORMAT_NOT_ALLOWED: u8 = 14;
 // The signature is another one.
 pub const SIGNATURE_DIFFERS: u8 = 15;
 
-// The top object has no such member.
+// The header has no member k.
 pub const NO_SUCH_MEMBER: u8 = 16;
 
 // All of them, by their numbers. Rules out two names exchanged, and one number for two answers.

@@ -139,7 +139,7 @@ fn header_constants(text: &str) -> Vec<Entry> {
     body.lines().map(constant).collect()
 }
 
-/// The constants `pub const NAME: u8 = number;`, with the doc comment before each if it has one.
+/// The constants `pub const NAME: u8 = number;` of Rust or Rattle, with the comment before each if it has one.
 fn constants(text: &str) -> Vec<Entry> {
     let mut constants = Vec::new();
     let mut comment = None;
@@ -149,7 +149,7 @@ fn constants(text: &str) -> Vec<Entry> {
             let number = rest.strip_suffix(';').unwrap().parse().unwrap();
             constants.push(entry(number, Some(name), comment));
         }
-        comment = line.strip_prefix("/// ");
+        comment = line.strip_prefix("/// ").or(line.strip_prefix("// "));
     }
     constants
 }
@@ -203,7 +203,7 @@ fn every_place_agrees() {
     );
     assert_eq!(differences(&list(), &header_constants(&file("include/jws.h"))), none);
     assert_eq!(
-        differences(&list(), &constants(&file("crates/answers/src/lib.rt"))),
+        differences(&sentences(list()), &constants(&file("crates/answers/src/lib.rt"))),
         none
     );
     assert_eq!(
@@ -224,6 +224,7 @@ fn every_place_agrees() {
 fn every_comment_is_there() {
     for place in [
         header_constants(&file("include/jws.h")),
+        constants(&file("crates/answers/src/lib.rt")),
         constants(&file("rust/reference/src/answer.rs")),
         cases(&file("rust/jws/src/refusal.rs")),
     ] {
@@ -328,11 +329,13 @@ fn places_are_read() {
     assert_eq!(table(short, "\n## B\n"), [entry(0, None, Some("done"))]);
     let header = "/* Answers. */\nenum {\n    JWS_DONE = 0, /* done */\n    JWS_BAD = 1   /* `x` is bad */\n};\n";
     assert_eq!(header_constants(header), [done.clone(), bad.clone()]);
-    let rust = "/// Done.\npub const DONE: u8 = 0;\n\npub const BAD: u8 = 1;\n";
-    assert_eq!(
-        constants(rust),
-        [entry(0, Some("DONE"), Some("Done.")), entry(1, Some("BAD"), None)]
-    );
+    for comment in ["///", "//"] {
+        let code = format!("{comment} Done.\npub const DONE: u8 = 0;\n\npub const BAD: u8 = 1;\n");
+        assert_eq!(
+            constants(&code),
+            [entry(0, Some("DONE"), Some("Done.")), entry(1, Some("BAD"), None)]
+        );
+    }
     let source = "pub enum Refusal {\n    /// Words.\n    NoKey,\n    /// More.\n    Unknown(u8),\n}\n";
     assert_eq!(cases(source), [entry(12, Some("NoKey"), Some("Words."))]);
     assert_eq!(
