@@ -107,19 +107,19 @@ enum {
  * table:   the key table.
  * header:  a buffer for the decoded header; JWS_HEADER_MAX bytes always suffice.
  * payload: a buffer for the payload; 3/4 of the token's length, and so JWS_PAYLOAD_MAX, always suffices.
- * record:  nine words, JWS_RECORD_HEADER_LENGTH to JWS_RECORD_CTY_LENGTH.
+ * record:  JWS_RECORD_WORDS words, JWS_RECORD_HEADER_LENGTH the first of them.
  *
  * Answers JWS_DONE, or the first of 1 to 15 in this order. After JWS_DONE each buffer holds its part of the token and then zeros.
- * After a refusal both buffers and all nine words are 0, from end to end.
+ * After a refusal both buffers and all words of the record are 0, from end to end.
  */
 uint8_t jws_verify(const uint8_t *token, size_t token_len, const uint8_t *table, size_t table_len, uint8_t *header,
-                   size_t header_len, uint8_t *payload, size_t payload_len, uint64_t record[9]);
+                   size_t header_len, uint8_t *payload, size_t payload_len, uint64_t record[JWS_RECORD_WORDS]);
 
 /*
  * The payload's length, by a record that jws_verify wrote and the length of the payload buffer that it filled: the payload is that many
  * of the buffer's first bytes. 0 if the record asks for more than the buffer has, and of the record of a refusal.
  */
-uint64_t jws_payload(const uint64_t record[9], size_t payload_len);
+uint64_t jws_payload(const uint64_t record[JWS_RECORD_WORDS], size_t payload_len);
 
 /*
  * Signs a header and a payload by a key of the table.
@@ -140,12 +140,12 @@ uint8_t jws_sign(const uint8_t *header, size_t header_len, const uint8_t *payloa
  * Reads member k, from 0, of a header's top object.
  *
  * header: the header's bytes.
- * member: five words, JWS_MEMBER_KIND to JWS_MEMBER_VALUE_END.
+ * member: JWS_MEMBER_WORDS words, JWS_MEMBER_KIND the first of them.
  *
  * Answers JWS_DONE, or the first of 5, 7, 8, 16 in this order: 5, 7 and 8 are the header's and the same for every k; 16 is for a k past
- * the last member. After a refusal all five words are 0.
+ * the last member. After a refusal all words of the member are 0.
  */
-uint8_t jws_member(const uint8_t *header, size_t header_len, size_t k, uint64_t member[5]);
+uint8_t jws_member(const uint8_t *header, size_t header_len, size_t k, uint64_t member[JWS_MEMBER_WORDS]);
 
 #ifdef __cplusplus
 }

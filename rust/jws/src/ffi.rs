@@ -5,12 +5,17 @@
 //! Each pointer is valid for its length, or for the words that it points to; what is lent for writing overlaps nothing
 //! else that is lent to the same call. There is no other precondition.
 
+/// Words of a record: `JWS_RECORD_WORDS`.
+pub const RECORD_WORDS: usize = 9;
+/// Words of a member: `JWS_MEMBER_WORDS`.
+pub const MEMBER_WORDS: usize = 5;
+
 extern "C" {
     /// The number of the archive's boundary.
     pub fn jws_boundary() -> u32;
 
     /// Member `k` of a header: kind, name start, name end, value start, value end.
-    pub fn jws_member(header: *const u8, header_len: usize, k: usize, member: *mut [u64; 5]) -> u8;
+    pub fn jws_member(header: *const u8, header_len: usize, k: usize, member: *mut [u64; MEMBER_WORDS]) -> u8;
 
     /// Verifies a token: header length, payload length, key index, whether `kid` was there, format, start and length of
     /// `typ`, start and length of `cty`.
@@ -23,11 +28,11 @@ extern "C" {
         header_len: usize,
         payload: *mut u8,
         payload_len: usize,
-        record: *mut [u64; 9],
+        record: *mut [u64; RECORD_WORDS],
     ) -> u8;
 
     /// How many bytes of a payload buffer of this length hold the payload.
-    pub fn jws_payload(record: *const [u64; 9], buffer_len: usize) -> u64;
+    pub fn jws_payload(record: *const [u64; RECORD_WORDS], buffer_len: usize) -> u64;
 
     /// Signs a header and a payload: the token's length.
     pub fn jws_sign(

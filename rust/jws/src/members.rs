@@ -3,7 +3,7 @@
 use core::iter::FusedIterator;
 use core::ops::Range;
 
-use crate::ffi;
+use crate::ffi::{self, MEMBER_WORDS};
 use crate::words::places;
 use crate::Refusal;
 
@@ -80,7 +80,7 @@ pub struct Member {
 }
 
 impl Member {
-    fn of([kind, name_start, name_end, value_start, value_end]: [u64; 5]) -> Self {
+    fn of([kind, name_start, name_end, value_start, value_end]: [u64; MEMBER_WORDS]) -> Self {
         Member {
             kind: Kind::of(kind),
             name: places(name_start, name_end),
@@ -90,7 +90,7 @@ impl Member {
 }
 
 /// What the archive's answer and words say.
-fn found(answer: u8, words: [u64; 5]) -> Result<Member, Refusal> {
+fn found(answer: u8, words: [u64; MEMBER_WORDS]) -> Result<Member, Refusal> {
     Refusal::check(answer)?;
     Ok(Member::of(words))
 }
@@ -113,8 +113,8 @@ fn found(answer: u8, words: [u64; 5]) -> Result<Member, Refusal> {
 /// # Ok::<(), Refusal>(())
 /// ```
 pub fn member(header: &[u8], k: usize) -> Result<Member, Refusal> {
-    let mut words = [0; 5];
-    // SAFETY: the pointer goes with the slice's length, and `words` is five words of this function's own.
+    let mut words = [0; MEMBER_WORDS];
+    // SAFETY: the pointer goes with the slice's length, and `words` is this function's own.
     let answer = unsafe { ffi::jws_member(header.as_ptr(), header.len(), k, &mut words) };
     found(answer, words)
 }
@@ -165,9 +165,9 @@ mod tests {
     use super::*;
     use crate::refusal::tests::in_order;
 
-    const LEAST: [u64; 5] = [0; 5];
-    const GREATEST: [u64; 5] = [u64::MAX; 5];
-    const GOOD: [u64; 5] = [6, 18, 19, 22, 25];
+    const LEAST: [u64; MEMBER_WORDS] = [0; MEMBER_WORDS];
+    const GREATEST: [u64; MEMBER_WORDS] = [u64::MAX; MEMBER_WORDS];
+    const GOOD: [u64; MEMBER_WORDS] = [6, 18, 19, 22, 25];
 
     #[test]
     fn every_answer() {

@@ -2,7 +2,7 @@
 
 use core::ops::Range;
 
-use crate::ffi;
+use crate::ffi::{self, RECORD_WORDS};
 use crate::words::{places, size, word};
 use crate::{Refusal, Refused};
 
@@ -34,7 +34,7 @@ pub struct Record {
 }
 
 impl Record {
-    fn of([header, payload, key, kid, format, typ, typ_length, cty, cty_length]: [u64; 9]) -> Self {
+    fn of([header, payload, key, kid, format, typ, typ_length, cty, cty_length]: [u64; RECORD_WORDS]) -> Self {
         Record {
             header_length: size(header),
             payload_length: size(payload),
@@ -47,7 +47,7 @@ impl Record {
     }
 
     /// The words that it is made of.
-    fn words(&self) -> [u64; 9] {
+    fn words(&self) -> [u64; RECORD_WORDS] {
         let [typ, typ_length] = text_words(&self.typ);
         let [cty, cty_length] = text_words(&self.cty);
         [
@@ -94,7 +94,7 @@ fn text_words(text: &Option<Range<usize>>) -> [u64; 2] {
 }
 
 /// What the archive's answer and words say of a token.
-fn verified(answer: u8, words: [u64; 9]) -> Result<Record, Refused> {
+fn verified(answer: u8, words: [u64; RECORD_WORDS]) -> Result<Record, Refused> {
     Refused::check(answer)?;
     Ok(Record::of(words))
 }
@@ -133,9 +133,9 @@ fn signed(answer: u8, length: u64) -> Result<usize, Refusal> {
 /// # Ok::<(), Refusal>(())
 /// ```
 pub fn verify(token: &[u8], table: &[u8], header: &mut [u8], payload: &mut [u8]) -> Result<Record, Refused> {
-    let mut words = [0; 9];
+    let mut words = [0; RECORD_WORDS];
     // SAFETY: each pointer goes with the length of its own slice; the slices that are written are lent exclusively, and
-    // `words` is nine words of this function's own.
+    // `words` is this function's own.
     let answer = unsafe {
         ffi::jws_verify(
             token.as_ptr(),
@@ -203,9 +203,9 @@ mod tests {
     use super::*;
     use crate::refusal::tests::in_order;
 
-    const LEAST: [u64; 9] = [0; 9];
-    const GREATEST: [u64; 9] = [u64::MAX; 9];
-    const GOOD: [u64; 9] = [30, 70, 2, 1, 8, 8, 3, 20, 0];
+    const LEAST: [u64; RECORD_WORDS] = [0; RECORD_WORDS];
+    const GREATEST: [u64; RECORD_WORDS] = [u64::MAX; RECORD_WORDS];
+    const GOOD: [u64; RECORD_WORDS] = [30, 70, 2, 1, 8, 8, 3, 20, 0];
 
     #[test]
     fn every_answer() {

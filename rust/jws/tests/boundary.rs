@@ -8,6 +8,8 @@ use std::io::Write;
 use std::path::{Path, PathBuf};
 use std::process::{Command, Stdio};
 
+use jws::ffi::{MEMBER_WORDS, RECORD_WORDS};
+
 const HERE: &str = env!("CARGO_MANIFEST_DIR");
 
 /// Compiles a program of `tests/c` over the archive, with every warning an error; `None` if there is no such compiler.
@@ -44,14 +46,16 @@ fn constants() -> BTreeMap<String, u64> {
 }
 
 #[test]
-fn limits_agree() {
+fn sizes_agree() {
     let constants = constants();
-    for (name, limit) in [
+    for (name, size) in [
         ("TOKEN_MAX", jws::TOKEN_MAX),
         ("HEADER_MAX", jws::HEADER_MAX),
         ("PAYLOAD_MAX", jws::PAYLOAD_MAX),
+        ("RECORD_WORDS", RECORD_WORDS),
+        ("MEMBER_WORDS", MEMBER_WORDS),
     ] {
-        assert_eq!(constants.get(name), Some(&(limit as u64)), "{name}");
+        assert_eq!(constants.get(name), Some(&(size as u64)), "{name}");
     }
     assert_eq!(jws::TOKEN_MAX, reference::limits::TOKEN_MAX);
     assert_eq!(jws::HEADER_MAX, reference::limits::HEADER_MAX);
@@ -77,7 +81,7 @@ fn kinds_agree() {
 /// The part of a buffer that holds the payload, by words as they come, some of them out of any record.
 #[test]
 fn payload_lengths() {
-    let mut words = [0xA5; 9];
+    let mut words = [0xA5; RECORD_WORDS];
     for (length, room, expected) in [
         (0, 0, 0),
         (0, 5, 0),
