@@ -10,7 +10,7 @@ ghost use mathlib.Core.Path.{_≡_};
 ghost use Rattle.common.specs.First.{first};
 ghost use Rattle.json_rules.specs.Tests.{grammarTests};
 
-// What a text of any length answers within the depth: 0 if it is read; 7 if it isn't derived by the grammar, or nests too deep; 8 if one object has a name twice.
+// What a text of any length answers: 7 if the grammar doesn't derive it within the depth; 8 if an object in it has a name twice; 0 if it is read.
 // Rules out 8 for a text that breaks off after two equal names, and 0 for two names that are equal after their escapes are resolved.
 pub fn check_text(s: &[u8], depth: usize) -> u8
     ensures { λ r. ⌜ r ≡ first (grammarTests depth (now (s .entry))) ⌝ }

@@ -1,4 +1,4 @@
--- DEMAND 3, in two lines. `Read h` (Answers): whichever member is asked for, the member call answers 0 or 16. `DerivedOnce h` (Rules): the grammar derives h, at most
+-- DEMAND 3, in two lines. `Read h` (Tests): whichever member is asked for, the member call answers 0 or 16. `DerivedOnce h` (Rules): the grammar derives h, at most
 -- 8 deep, with no name twice in an object. `member h k (membersOf t)` (json_grammar_rules, Places): kind and places of member k in the derivation t.
 use mathlib.Core.Path.{_≡_, sym, _∙_, subst}
 use mathlib.Core.Logic.{_↔_}

@@ -61,6 +61,6 @@ signWords s = signGives (s .gives .answer) (s .gives .length) (s .token)
 abbrev pub payloadWord : List ℕ → ℕ → ℕ
 payloadWord words room = partLength (getD words 1 0) room
 
--- THE BOUNDARY: the number of this set of functions, words and answers; it goes up when a function's arguments change
+-- THE BOUNDARY: its number, JWS_BOUNDARY of include/jws.h; it goes up when a function takes other arguments or a record has other words
 abbrev pub boundary : ℕ
 boundary = 1

@@ -102,7 +102,7 @@ pub fn read(header: &[u8]) -> Result<Vec<Member<'_>>, u8> {
     if header.len() > HEADER_MAX {
         return Err(HEADER_TOO_LONG);
     }
-    // RFC 3629: no overlong form, no surrogate, none above U+10FFFF; `str` has the same rule.
+    // The rules of RFC 3629 are those of `str`: shortest forms alone, no surrogates, nothing past U+10FFFF.
     let text = std::str::from_utf8(header).map_err(|_| NOT_DERIVED)?;
     let mut reader = Reader {
         text,
