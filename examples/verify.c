@@ -1,6 +1,6 @@
 /*
- * Verifies the token of RFC 7515 A.1 with its key alone in a table, prints what it holds, and signs it again. Each call runs on a stack
- * of its own, which is cleared afterwards: what a call leaves there may be the MAC and the secret.
+ * Verifies the token of RFC 7515 A.1 with its key alone in a table, prints what it holds, and signs it again. Both calls run on a stack
+ * of their own, which is cleared afterwards: what they leave there may be the MAC and the secret.
  *
  *     cc -std=c99 -Wall -Wextra -Werror -Iinclude examples/verify.c target/staticlib/libjws_ffi.a -o verify
  *     cc -std=c99 examples/verify.c $(pkg-config --cflags --libs jws) -o verify       after make install

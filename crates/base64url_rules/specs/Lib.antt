@@ -1,6 +1,7 @@
--- Base64url. What a reader believes: the alphabet, texts and bytes, faults, what the two functions answer, and their tables.
+-- Base64url. What a reader believes: the alphabet, texts and bytes.
 pub mod Alphabet
 pub mod Base64url
+-- Faults, what the two functions answer, and their tables: what the contracts cite.
 pub mod Fault
 pub mod Outcome
 pub mod Tables

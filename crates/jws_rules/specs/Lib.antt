@@ -1,10 +1,10 @@
--- Compact tokens. What a reader believes: segments, tokens, what a call is lent, and the rules.
+-- Compact tokens. What a reader believes: segments, tokens, what a call is lent, the rules, and what the calls give.
 pub mod Segments
 pub mod Token
 pub mod Calls
 pub mod Rules
--- The tests, and what the calls give: what the contracts cite.
 pub mod Outcomes
+-- The tests of the rules: what the contracts cite.
 pub mod Tests
 -- The promises, the limits on both sides, and tokens that are accepted.
 pub mod Promises

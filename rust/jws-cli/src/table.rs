@@ -1,4 +1,4 @@
-//! The key table of the specification ("The key table"): laying one out, and reading one so that a fault can be told in words.
+//! The key table of the specification ("Key table"): laying one out, and reading one so that a fault can be told in words.
 
 use std::fmt;
 use std::ops::Range;

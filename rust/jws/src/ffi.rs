@@ -3,7 +3,8 @@
 //! # Safety
 //!
 //! Each pointer is valid for its length, or for the words that it points to; what is lent for writing overlaps nothing
-//! else that is lent to the same call. There is no other precondition.
+//! else that is lent to the same call; a length times the size of what it counts is below 2^63, as of every object of
+//! Rust. There is no other precondition.
 
 /// Words of a record: `JWS_RECORD_WORDS`.
 pub const RECORD_WORDS: usize = 9;

@@ -17,7 +17,7 @@ pub struct Place {
     pub end: usize,
 }
 
-/// Specification, "The member reader": one of seven kinds of value, numbered in its order.
+/// Specification, "Calls", member: one of seven kinds of value, numbered in its order.
 #[derive(Clone, Copy, Debug, PartialEq, Eq)]
 #[repr(u8)]
 pub enum Kind {

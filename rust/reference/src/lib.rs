@@ -1,4 +1,4 @@
-//! An independent reference for signed setpoint tokens, written from the build specification (cited below as
+//! An independent reference for signed setpoint tokens, written from `docs/SPECIFICATION.md` (cited below as
 //! "the specification") and the RFCs that it names. Plain safe Rust, no dependencies.
 //!
 //! From the leaves up: [`base64url`], [`sha256`], [`hmac`] and [`json`] know their own document only; [`table`] is the

@@ -4,10 +4,10 @@
 pub const TOKEN_MAX: usize = 16_384;
 /// Longest decoded header, in bytes ("Answers", 5).
 pub const HEADER_MAX: usize = 1_024;
-/// Greatest depth of arrays and objects; the top object is depth 1 ("The header grammar").
+/// Greatest depth of arrays and objects; the top object is depth 1 ("Header").
 pub const DEPTH_MAX: usize = 8;
 
-/// Shortest key table, in bytes: its fixed part ("The key table").
+/// Shortest key table, in bytes: its fixed part ("Key table").
 pub const TABLE_MIN: usize = 8;
 /// Longest key table, in bytes.
 pub const TABLE_MAX: usize = 8_192;
@@ -26,9 +26,9 @@ pub const SECRET_MIN: usize = 32;
 /// Longest secret, in bytes.
 pub const SECRET_MAX: usize = 128;
 
-/// Lowest format number ("Known members").
+/// Lowest format number ("Members with a meaning").
 pub const FORMAT_MIN: i64 = 1;
 /// Highest format number.
 pub const FORMAT_MAX: i64 = 8;
-/// Bytes of an HS256 MAC ("Segments and MAC").
+/// Bytes of an HS256 MAC ("Signature").
 pub const MAC_LEN: usize = 32;

@@ -1,4 +1,4 @@
-//! Specification, "Known members": the answers 9 to 14, over the members of a header that is read and the keys of a table.
+//! Specification, "Members with a meaning": the answers 9 to 14, over the members of a header that is read and the keys of a table.
 
 use crate::answer::{ALG_NOT_ALLOWED, CRITICAL, FORMAT_NOT_ALLOWED, NO_KEY, WRONG_ALG, WRONG_KIND};
 use crate::json::{Member, Place, Value};

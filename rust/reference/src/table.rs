@@ -1,4 +1,4 @@
-//! Specification, "The key table".
+//! Specification, "Key table".
 
 use crate::limits::{ENTRY_LEN, ID_MAX, ID_MIN, KEYS_MAX, SECRET_MAX, SECRET_MIN, TABLE_EDITION, TABLE_MAX, TABLE_MIN};
 

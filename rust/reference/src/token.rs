@@ -11,7 +11,7 @@ use crate::limits::{HEADER_MAX, MAC_LEN, TOKEN_MAX};
 use crate::rules::{self, Choice};
 use crate::table::{self, Key};
 
-/// Specification, "Numbered answers": what an accepted token had. All zeros after a refusal.
+/// Specification, "Calls", verify: what an accepted token had. All zeros after a refusal.
 #[derive(Clone, Copy, Debug, Default, PartialEq, Eq)]
 pub struct Record {
     /// Bytes of the decoded header.

@@ -1,4 +1,4 @@
-//! Specification, "On both sides of the line", row by row.
+//! Specification, "Both sides of a limit", row by row.
 
 mod common;
 

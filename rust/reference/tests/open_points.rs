@@ -1,4 +1,4 @@
-//! The open points of the specification, by their numbers, as they are read here.
+//! The open points of the specification, as `docs/DECISIONS.md` reads them.
 
 mod common;
 

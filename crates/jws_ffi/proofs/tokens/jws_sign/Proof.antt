@@ -1,4 +1,4 @@
--- `jws_sign` meets its contract: the number, the length and the buffer are those of jws's answer.
+-- `jws_sign` meets its contract: the number, the length and the buffer are those of jws_signing's answer.
 use mathlib.Core.Path.{ap}
 use borrow.Author.Needs.{needs}
 use Rattle.jws_words.specs.Words.{signWords}
