@@ -49,8 +49,8 @@ Usage:
 
 A file named - is standard input, or standard output where it is written.
 
-Exit status: 0 done, 1 the keys file or the table is wrong, 2 wrong arguments, a file that can't be read or written, or a proved
-library of another version or verdict than this command's.
+Exit status: 0 done, 1 the keys file or the table is wrong, 2 wrong arguments, a file that can't be read or written, or where
+this command and the proved library don't fit.
 
 Example:
   jws-table build keys.txt table.bin && jws-table show table.bin

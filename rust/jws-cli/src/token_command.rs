@@ -53,8 +53,8 @@ Usage:
 A file named - is standard input, or standard output where it is written. A refusal is told on standard error, with its
 number, its name and what to look at.
 
-Exit status: 0 done, 1 refused, 2 wrong arguments, a file that can't be read or written, or a proved library of another version
-than this command's.
+Exit status: 0 done, 1 refused, 2 wrong arguments, a file that can't be read or written, or where this command and the proved
+library don't fit.
 
 Example:
   printf '{\"alg\":\"HS256\"}' | jws-token sign --table table.bin --header - --payload setpoint.json --out token.txt
