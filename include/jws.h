@@ -1,13 +1,15 @@
 /*
  * Compact JSON Web Signatures (RFC 7515) with HMAC-SHA-256: verify a token, sign one, and read a header's members.
  *
- * Link the archive (`-ljws` where it was installed by `make install`, else target/staticlib/libjws_ffi.a, which `make` writes) and the C
- * library, of which memset and memcpy are called. There is no heap, no global state and no error but the answer, so calls may run on any
- * threads at once.
+ * Link the archive (`-ljws` where it was installed by `make install`, else target/staticlib/libjws_ffi.a, which `make` writes; for a node's
+ * own processor target/nodes/NAME/libjws.a, which `make nodes` writes) and the C library, of which memset and memcpy are called, on ARM by
+ * its run-time ABI's names. There is no heap, no global state and no error but the answer, so calls may run on any threads at once.
  *
  * Of every call:
  * - a pointer comes with its length; where the length is 0, the pointer may be null and is not followed;
- * - a length times the size of what it counts is below 2^63, as in any object of C;
+ * - lengths are 64 bits wide whatever the processor; a length times the size of what it counts is below 2^63, as in any object of C;
+ * - bytes (token, table, header, payload) may stand at any address; words (`record`, `length`, `member`) stand at a multiple of 8, which is
+ *   where C puts a uint64_t on each of these processors;
  * - what is lent for writing (the buffers, `record`, `length`, `member`) overlaps nothing else that is lent to the same call;
  * - `record`, `length` and `member` are never null;
  * - an answer is 0, or the number of the first rule that refuses, in the order said at each function. Any number but 0 is a refusal, also
@@ -21,7 +23,6 @@
 #ifndef JWS_H
 #define JWS_H
 
-#include <stddef.h>
 #include <stdint.h>
 
 #ifdef __cplusplus
@@ -112,14 +113,14 @@ enum {
  * Answers JWS_DONE, or the first of 1 to 15 in this order. After JWS_DONE each buffer holds its part of the token and then zeros.
  * After a refusal both buffers and all words of the record are 0, from end to end.
  */
-uint8_t jws_verify(const uint8_t *token, size_t token_len, const uint8_t *table, size_t table_len, uint8_t *header,
-                   size_t header_len, uint8_t *payload, size_t payload_len, uint64_t record[JWS_RECORD_WORDS]);
+uint8_t jws_verify(const uint8_t *token, uint64_t token_len, const uint8_t *table, uint64_t table_len, uint8_t *header,
+                   uint64_t header_len, uint8_t *payload, uint64_t payload_len, uint64_t record[JWS_RECORD_WORDS]);
 
 /*
  * The payload's length, by a record that jws_verify wrote and the length of the payload buffer that it filled: the payload is that many
  * of the buffer's first bytes. 0 if the record asks for more than the buffer has, and of the record of a refusal.
  */
-uint64_t jws_payload(const uint64_t record[JWS_RECORD_WORDS], size_t payload_len);
+uint64_t jws_payload(const uint64_t record[JWS_RECORD_WORDS], uint64_t payload_len);
 
 /*
  * Signs a header and a payload by a key of the table.
@@ -133,8 +134,8 @@ uint64_t jws_payload(const uint64_t record[JWS_RECORD_WORDS], size_t payload_len
  * Answers JWS_DONE, or the first of 2, 5, 7 to 14, then 1 (the finished token), then 6, in this order. After JWS_DONE the buffer holds
  * the token and then zeros. After a refusal the buffer and the length are 0, from end to end.
  */
-uint8_t jws_sign(const uint8_t *header, size_t header_len, const uint8_t *payload, size_t payload_len,
-                 const uint8_t *table, size_t table_len, uint8_t *token, size_t token_len, uint64_t *length);
+uint8_t jws_sign(const uint8_t *header, uint64_t header_len, const uint8_t *payload, uint64_t payload_len,
+                 const uint8_t *table, uint64_t table_len, uint8_t *token, uint64_t token_len, uint64_t *length);
 
 /*
  * Reads member k, from 0, of a header's top object.
@@ -145,7 +146,7 @@ uint8_t jws_sign(const uint8_t *header, size_t header_len, const uint8_t *payloa
  * Answers JWS_DONE, or the first of 5, 7, 8, 16 in this order: 5, 7 and 8 are the header's and the same for every k; 16 is for a k past
  * the last member. After a refusal all words of the member are 0.
  */
-uint8_t jws_member(const uint8_t *header, size_t header_len, size_t k, uint64_t member[JWS_MEMBER_WORDS]);
+uint8_t jws_member(const uint8_t *header, uint64_t header_len, uint64_t k, uint64_t member[JWS_MEMBER_WORDS]);
 
 #ifdef __cplusplus
 }

@@ -4,7 +4,7 @@ use core::iter::FusedIterator;
 use core::ops::Range;
 
 use crate::ffi::{self, MEMBER_WORDS};
-use crate::words::places;
+use crate::words::{places, word};
 use crate::Refusal;
 
 /// The kind of a member's value.
@@ -115,7 +115,7 @@ fn found(answer: u8, words: [u64; MEMBER_WORDS]) -> Result<Member, Refusal> {
 pub fn member(header: &[u8], k: usize) -> Result<Member, Refusal> {
     let mut words = [0; MEMBER_WORDS];
     // SAFETY: the pointer goes with the slice's length, and `words` is this function's own.
-    let answer = unsafe { ffi::jws_member(header.as_ptr(), header.len(), k, &mut words) };
+    let answer = unsafe { ffi::jws_member(header.as_ptr(), word(header.len()), word(k), &mut words) };
     found(answer, words)
 }
 

@@ -77,7 +77,7 @@ impl Record {
     /// ```
     pub fn payload<'b>(&self, buffer: &'b [u8]) -> &'b [u8] {
         // SAFETY: the words are this function's own, and no byte of the buffer is lent.
-        let length = unsafe { ffi::jws_payload(&self.words(), buffer.len()) };
+        let length = unsafe { ffi::jws_payload(&self.words(), word(buffer.len())) };
         buffer.get(..size(length)).unwrap_or(&[])
     }
 }
@@ -139,13 +139,13 @@ pub fn verify(token: &[u8], table: &[u8], header: &mut [u8], payload: &mut [u8])
     let answer = unsafe {
         ffi::jws_verify(
             token.as_ptr(),
-            token.len(),
+            word(token.len()),
             table.as_ptr(),
-            table.len(),
+            word(table.len()),
             header.as_mut_ptr(),
-            header.len(),
+            word(header.len()),
             payload.as_mut_ptr(),
-            payload.len(),
+            word(payload.len()),
             &mut words,
         )
     };
@@ -185,13 +185,13 @@ pub fn sign(header: &[u8], payload: &[u8], table: &[u8], token: &mut [u8]) -> Re
     let answer = unsafe {
         ffi::jws_sign(
             header.as_ptr(),
-            header.len(),
+            word(header.len()),
             payload.as_ptr(),
-            payload.len(),
+            word(payload.len()),
             table.as_ptr(),
-            table.len(),
+            word(table.len()),
             token.as_mut_ptr(),
-            token.len(),
+            word(token.len()),
             &mut length,
         )
     };

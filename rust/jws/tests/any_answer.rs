@@ -18,12 +18,12 @@ extern "C" fn jws_boundary() -> u32 {
 }
 
 #[no_mangle]
-extern "C" fn jws_payload(_record: &[u64; RECORD_WORDS], _room: usize) -> u64 {
+extern "C" fn jws_payload(_record: &[u64; RECORD_WORDS], _room: u64) -> u64 {
     SAYS.get().1
 }
 
 #[no_mangle]
-extern "C" fn jws_member(_header: *const u8, _header_len: usize, _k: usize, member: &mut [u64; MEMBER_WORDS]) -> u8 {
+extern "C" fn jws_member(_header: *const u8, _header_len: u64, _k: u64, member: &mut [u64; MEMBER_WORDS]) -> u8 {
     let (answer, word) = SAYS.get();
     *member = [word; MEMBER_WORDS];
     answer
@@ -32,13 +32,13 @@ extern "C" fn jws_member(_header: *const u8, _header_len: usize, _k: usize, memb
 #[no_mangle]
 extern "C" fn jws_verify(
     _token: *const u8,
-    _token_len: usize,
+    _token_len: u64,
     _table: *const u8,
-    _table_len: usize,
+    _table_len: u64,
     _header: *mut u8,
-    _header_len: usize,
+    _header_len: u64,
     _payload: *mut u8,
-    _payload_len: usize,
+    _payload_len: u64,
     record: &mut [u64; RECORD_WORDS],
 ) -> u8 {
     let (answer, word) = SAYS.get();
@@ -49,13 +49,13 @@ extern "C" fn jws_verify(
 #[no_mangle]
 extern "C" fn jws_sign(
     _header: *const u8,
-    _header_len: usize,
+    _header_len: u64,
     _payload: *const u8,
-    _payload_len: usize,
+    _payload_len: u64,
     _table: *const u8,
-    _table_len: usize,
+    _table_len: u64,
     _token: *mut u8,
-    _token_len: usize,
+    _token_len: u64,
     length: &mut u64,
 ) -> u8 {
     let (answer, word) = SAYS.get();

@@ -3,11 +3,14 @@
 
 #![allow(unsafe_code)] // a raw call of the archive
 
+mod common;
+
 use std::collections::BTreeMap;
 use std::io::Write;
 use std::path::{Path, PathBuf};
 use std::process::{Command, Stdio};
 
+use common::{deepest_headers, token_of};
 use jws::ffi::{MEMBER_WORDS, RECORD_WORDS};
 
 const HERE: &str = env!("CARGO_MANIFEST_DIR");
@@ -89,7 +92,7 @@ fn payload_lengths() {
         (5, 6, 5),
         (6, 5, 0),
         (u64::MAX, 5, 0),
-        (u64::MAX, usize::MAX, usize::MAX as u64),
+        (u64::MAX, u64::MAX, u64::MAX),
         (1 << 32, 5, 0),
     ] {
         words[1] = length;
@@ -149,36 +152,6 @@ fn numbers(program: &Path, words: &[&str], input: &[u8]) -> Vec<usize> {
 fn stack_of(program: &Path, call: &str, argument: &str, input: &[u8]) -> (u8, usize) {
     let said = numbers(program, &[call, argument], input);
     (said[0].try_into().unwrap(), said[1])
-}
-
-/// Headers whose last member nests seven deep, of arrays and objects, with values of several kinds inside; and eight deep, which is
-/// refused.
-fn deepest_headers() -> Vec<(String, u8)> {
-    let mut headers = Vec::new();
-    for inner in ["0", "\"\u{10FFFF}\"", "\"\\uDBFF\\uDFFF\"", "-1.5e3", "true"] {
-        for depth in [7, 8] {
-            for brackets in ["[[", "{{", "[{", "{["] {
-                let (mut open, mut close) = (String::new(), String::new());
-                for level in 0..depth {
-                    let array = brackets.as_bytes()[level % 2] == b'[';
-                    open.push_str(if array { "[" } else { "{\"\u{10FFFF}\":" });
-                    close.insert(0, if array { ']' } else { '}' });
-                }
-                let known = r#""alg":"HS256","kid":"RFC 7515 A.1","crit":["fmt"],"fmt":1"#;
-                let header = format!("{{{known},\"x\":{open}{inner}{close}}}");
-                headers.push((header, if depth == 7 { 0 } else { 7 }));
-            }
-        }
-    }
-    headers
-}
-
-/// A token of any header and payload, whatever the rules say.
-fn token_of(header: &str, payload: &[u8], secret: &[u8]) -> Vec<u8> {
-    let encode = reference::base64url::encode;
-    let signed = format!("{}.{}", encode(header.as_bytes()), encode(payload));
-    let mac = reference::hmac::hmac_sha256(secret, signed.as_bytes());
-    format!("{signed}.{}", encode(&mac)).into_bytes()
 }
 
 #[test]

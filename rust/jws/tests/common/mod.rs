@@ -18,7 +18,8 @@ pub fn cases() -> usize {
     cases_or(20_000)
 }
 
-const GARBAGE: u64 = 0xA5A5_A5A5_A5A5_A5A5;
+/// What stands before a call in the words that are written and beside them; its bytes, in buffers.
+pub const GARBAGE: u64 = 0xA5A5_A5A5_A5A5_A5A5;
 
 /// A buffer to lend: garbage, with a few bytes on both sides that a call has to leave as they are.
 struct Lent(Vec<u8>);
@@ -49,7 +50,7 @@ impl Lent {
 pub fn raw_member(header: &[u8], k: usize) -> (u8, [u64; 5]) {
     let mut words = [[GARBAGE; 5]; 3];
     // SAFETY: the pointer goes with the slice's length, and the words are this function's own.
-    let answer = unsafe { ffi::jws_member(header.as_ptr(), header.len(), k, &mut words[1]) };
+    let answer = unsafe { ffi::jws_member(header.as_ptr(), header.len() as u64, k as u64, &mut words[1]) };
     assert_eq!([words[0], words[2]], [[GARBAGE; 5]; 2]);
     (answer, words[1])
 }
@@ -93,13 +94,13 @@ pub fn raw_verify(token: &[u8], table: &[u8], header_len: usize, payload_len: us
     let answer = unsafe {
         ffi::jws_verify(
             token.as_ptr(),
-            token.len(),
+            token.len() as u64,
             table.as_ptr(),
-            table.len(),
+            table.len() as u64,
             header.part().as_mut_ptr(),
-            header_len,
+            header_len as u64,
             payload.part().as_mut_ptr(),
-            payload_len,
+            payload_len as u64,
             &mut words[1],
         )
     };
@@ -120,13 +121,13 @@ pub fn raw_sign(header: &[u8], payload: &[u8], table: &[u8], token_len: usize) -
     let answer = unsafe {
         ffi::jws_sign(
             header.as_ptr(),
-            header.len(),
+            header.len() as u64,
             payload.as_ptr(),
-            payload.len(),
+            payload.len() as u64,
             table.as_ptr(),
-            table.len(),
+            table.len() as u64,
             token.part().as_mut_ptr(),
-            token_len,
+            token_len as u64,
             &mut length[1],
         )
     };
@@ -225,8 +226,45 @@ pub fn calls_by_answer(calls: &Calls) -> String {
 
 /// The table of one key, id `k`, HS256 and format 1, of the secret that it ends with.
 pub fn one_key() -> Vec<u8> {
-    let secret = b"a secret of thirty-two bytes, so";
-    let mut table = vec![0, 1, 0, 1, 0, 0, 0, 53, 0, 20, 0, 1, 0, 21, 0, 32, 1, 1, 0, 0, b'k'];
+    table_of(b"k", b"a secret of thirty-two bytes, so")
+}
+
+/// The table of one key, HS256 and format 1: its id and then its secret, at the end.
+pub fn table_of(id: &[u8], secret: &[u8; 32]) -> Vec<u8> {
+    let (id_len, secret_at) = (id.len() as u8, 20 + id.len() as u8);
+    let mut table = vec![0, 1, 0, 1, 0, 0, 0, secret_at + 32];
+    table.extend([0, 20, 0, id_len, 0, secret_at, 0, 32, 1, 1, 0, 0]);
+    table.extend(id);
     table.extend(secret);
     table
+}
+
+/// Headers whose last member nests seven deep, of arrays and objects, with values of several kinds inside; and eight
+/// deep, which is refused. Each with its answer.
+pub fn deepest_headers() -> Vec<(String, u8)> {
+    let mut headers = Vec::new();
+    for inner in ["0", "\"\u{10FFFF}\"", "\"\\uDBFF\\uDFFF\"", "-1.5e3", "true"] {
+        for depth in [7, 8] {
+            for brackets in ["[[", "{{", "[{", "{["] {
+                let (mut open, mut close) = (String::new(), String::new());
+                for level in 0..depth {
+                    let array = brackets.as_bytes()[level % 2] == b'[';
+                    open.push_str(if array { "[" } else { "{\"\u{10FFFF}\":" });
+                    close.insert(0, if array { ']' } else { '}' });
+                }
+                let known = r#""alg":"HS256","kid":"RFC 7515 A.1","crit":["fmt"],"fmt":1"#;
+                let header = format!("{{{known},\"x\":{open}{inner}{close}}}");
+                headers.push((header, if depth == 7 { 0 } else { 7 }));
+            }
+        }
+    }
+    headers
+}
+
+/// A token of any header and payload, whatever the rules say.
+pub fn token_of(header: &str, payload: &[u8], secret: &[u8]) -> Vec<u8> {
+    let encode = reference::base64url::encode;
+    let signed = format!("{}.{}", encode(header.as_bytes()), encode(payload));
+    let mac = reference::hmac::hmac_sha256(secret, signed.as_bytes());
+    format!("{signed}.{}", encode(&mac)).into_bytes()
 }
