@@ -226,7 +226,7 @@ class Walk:
 
     def plain(self, state, op, operands):
         """The state after an instruction that goes on to the next."""
-        if op.startswith("nop") or op in ("endbr64", "cltq", "ud2") or (op, operands) == ("xchg", ["%ax", "%ax"]):
+        if op.startswith("nop") or op in ("endbr64", "cltq", "ud2", "vzeroupper") or (op, operands) == ("xchg", ["%ax", "%ax"]):
             return state
         if op in ("cltd", "cqto"):
             state.taint["rdx"] = state.taint.get("rax", 0)
