@@ -1,0 +1,85 @@
+"""The firmware of examples/node on its boards: what it is sent, a line at a time, and what it must say."""
+import base64
+import hashlib
+import hmac
+import json
+import os
+import select
+import shutil
+import struct
+import subprocess
+
+import build
+from machines import RUNTIME, link, objects
+from module import Refused
+
+SOURCE = os.path.join(build.ROOT, "examples", "node")
+SECRET = b"0123456789abcdef" * 2
+
+
+def signed(tank, tenths, **members):
+    """A token for a tank, by Python's HMAC."""
+    part = lambda text: base64.urlsafe_b64encode(text).rstrip(b"=")
+    text = part(json.dumps({"alg": "HS256", "kid": "cellar 2", **members}).encode()) + b"." + part(struct.pack(">Hh", tank, tenths))
+    return text + b"." + part(hmac.new(SECRET, text, hashlib.sha256).digest())
+
+
+def conversation():
+    """It acts on a setpoint for its own tank, and on nothing else: not on a forged one, nor on one of next year's format."""
+    good, next_year = signed(7, 215), signed(7, 300, crit=["fmt"], fmt=2)
+    other = "accepted, and nothing for this tank: setpoint 21.5"
+    return [
+        (good, "setpoint 21.5"), (good[:-4] + b"AAAA", "refused 15: setpoint 21.5"), (next_year, "refused 14: setpoint 21.5"),
+        (signed(8, 300), other), (b"", "refused 3: setpoint 21.5"), (b"A" * 600, "too long for this node: setpoint 21.5"),
+        (signed(7, 451), other), (signed(7, -101), other), (signed(7, 450), "setpoint 45.0"), (signed(7, -100), "setpoint -10.0"),
+        (good[1:], "refused 4: setpoint -10.0"), (good, "setpoint 21.5"),
+    ]
+
+
+def answer(process, line):
+    """What the firmware says to a line, as far as it comes within ten seconds."""
+    process.stdin.write(line + b"\n")
+    process.stdin.flush()
+    said = b""
+    while not said.endswith(b"\n") and select.select([process.stdout], [], [], 10)[0]:
+        byte = os.read(process.stdout.fileno(), 1)
+        if not byte:
+            break
+        said += byte
+    return said.decode(errors="replace").rstrip("\n")
+
+
+def talk(machine, program):
+    words = [machine.program, "-M", machine.board, "-nographic", "-monitor", "none", "-serial", "stdio", "-kernel", program]
+    with subprocess.Popen(words, stdin=subprocess.PIPE, stdout=subprocess.PIPE) as process:
+        try:
+            for line, expected in conversation():
+                if (said := answer(process, line)) != expected:
+                    raise Refused(f"the firmware on {machine.board} said {said!r}, and not {expected!r}, to {line[:60]!r}")
+        finally:
+            process.kill()
+
+
+def by_kit(kit, machine, folder):
+    """The firmware by the kit's compiler, with no C library."""
+    sources = [os.path.join(SOURCE, f"{name}.c") for name in ("main", "start", machine.board)]
+    program = os.path.join(folder, "firmware.elf")
+    link(kit, machine, ["-L", SOURCE, "-T", os.path.join(SOURCE, f"{machine.board}.ld")], objects(kit, machine, [*sources, RUNTIME], folder), program)
+    return program
+
+
+def by_gcc(machine):
+    """The firmware as its Makefile has it."""
+    build.run(["make", "-s", "-B", "-C", SOURCE, f"BOARD={machine.board}"])
+    return os.path.join(build.OUT, f"firmware-{machine.board}.elf")
+
+
+def run(kit, machine, folder):
+    """Runs the firmware by the kit's compiler and, where it is here, by GCC; gives what is said of it."""
+    os.makedirs(folder, exist_ok=True)
+    talk(machine, by_kit(kit, machine, folder))
+    compilers = "the kit's clang"
+    if shutil.which("arm-none-eabi-gcc"):
+        talk(machine, by_gcc(machine))
+        compilers += " and by GCC"
+    return f"examples/node on {machine.board}, by {compilers}: {len(conversation())} lines answered as they must be"
