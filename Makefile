@@ -17,13 +17,17 @@ PROVED := crates.txt $(shell find crates -name '*.rt' -o -name '*.antt')
 CALLING := rust/Cargo.toml rust/Cargo.lock rust/tools/aligned_archive.sh rust/tools/archive.rs $(shell find rust/jws/src rust/jws/build.rs rust/jws/Cargo.toml \
     rust/jws-cli/src rust/jws-cli/Cargo.toml -type f)
 
+# What the archives for other processors are compiled by. MACHINES names those of `make test-nodes`; all of them where it is empty.
+NODES := nodes/build.py nodes/module.py include/jws.h nodes/freestanding/stdint.h
+MACHINES =
+
 # What `make install` writes, below DESTDIR.
 INSTALLED = $(PREFIX)/lib/libjws.a $(PREFIX)/include/jws.h $(PREFIX)/lib/pkgconfig/jws.pc $(PREFIX)/bin/jws-table $(PREFIX)/bin/jws-token
 
 # need PROGRAM, WHAT IT IS: stops where it isn't there.
 need = @command -v $(1) >/dev/null || { echo 'make: $(1) is missing: $(2)' >&2; exit 1; }
 
-.PHONY: all run test install uninstall clean help
+.PHONY: all run nodes test test-nodes install uninstall clean help
 
 all: $(ARCHIVE) $(COMMANDS)
 
@@ -52,8 +56,17 @@ $(PKGCONFIG): jws.pc.in rust/Cargo.toml
 run: $(COMMANDS)
 	@examples/setpoint.sh rust/target/release target/run
 
+nodes: $(ARCHIVE) $(NODES)
+	$(call need,python3,it compiles the proved module for other processors)
+	@python3 nodes/build.py
+
 test:
 	@.ci/run
+
+test-nodes: $(ARCHIVE)
+	$(call need,python3,it runs the archives on their processors)
+	$(call need,cargo,the calls to be made are written by a program in Rust)
+	@python3 nodes/test.py $(MACHINES)
 
 install: $(ARCHIVE) $(COMMANDS) $(PKGCONFIG)
 	@echo 'Installing libjws $(VERSION) and its commands below $(DESTDIR)$(PREFIX)'
@@ -76,6 +89,8 @@ help:
 	@echo 'make            prove and compile the archive, compile the commands jws-table and jws-token'
 	@echo 'make run        an example in one go: a key table, a signed setpoint, a forged one refused, the signed one accepted'
 	@echo 'make test       the whole gate (.ci/run): proofs from nothing, must-fail edits, programs, Rust and C tests'
+	@echo 'make nodes      archives for the processors of nodes below target/nodes, and target/nodes/jws.wasm, each with its size'
+	@echo 'make test-nodes runs them on their processors, emulated by qemu (Debian: qemu-system-arm qemu-system-misc qemu-user nodejs), and compares'
 	@echo 'make install    lib/libjws.a, include/jws.h, lib/pkgconfig/jws.pc, bin/jws-table and bin/jws-token to PREFIX ($(PREFIX)), below DESTDIR'
 	@echo 'make uninstall  removes these files'
 	@echo 'make clean      removes target and rust/target'
