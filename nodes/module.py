@@ -9,7 +9,8 @@ The module lays structures out by itself, in bytes: a slice is a pointer at plac
 means the same with shorter pointers if a pointer is nowhere taken for a number. Of the instructions only those listed below are known,
 and none of them turns one into the other; what is left is memory that is written as the one and read as the other. So each piece of memory
 is followed through every function: what a pointer may point to is one object, and copies and calls make objects one (points-to analysis by
-unification). In no object may a pointer's eight bytes overlap a number, a filled range, a part of a copy, or a place that isn't constant.
+unification). In no object may a pointer's eight bytes overlap a number, a filled range, a part of a copy, or a place that isn't constant;
+and no variable that is a pointer, and so narrower on such a processor, may be copied as bytes.
 
 Every other form is refused with its line: it may be right, but nobody has looked.
 """
@@ -35,6 +36,7 @@ class Object:
         self.numbers = set()  # place, bytes
         self.edges = set()  # places that may not lie within a pointer: where a copy begins or ends
         self.varying = False  # is also reached at places that aren't constant
+        self.narrow = False  # is as wide as a pointer of the target, and no wider
 
 
 def find(place):
@@ -48,21 +50,22 @@ def find(place):
 
 def join(left, right):
     """Makes the objects of two places one, so that the two are the same place."""
-    left_work = [(left, right)]
-    while left_work:
-        (one, at), (other, there) = map(find, left_work.pop())
+    pairs = [(left, right)]
+    while pairs:
+        (one, at), (other, there) = map(find, pairs.pop())
         if one is other:
             one.varying |= at is None or there is None or at != there
             continue
         shift = 0 if at is None or there is None else at - there
         one.varying |= other.varying or at is None or there is None
+        one.narrow |= other.narrow
         other.root, other.shift = one, shift
         one.numbers |= {(place + shift, count) for place, count in other.numbers}
         one.edges |= {place + shift for place in other.edges}
         for place, target in other.pointers.items():
             mine = one.pointers.setdefault(place + shift, target)
             if mine is not target:
-                left_work.append((mine, target))
+                pairs.append((mine, target))
 
 
 def pointed(place, name):
@@ -91,7 +94,7 @@ NOTES = r"(?:, !\w+ !\d+)*"
 FORMS = {
     name: re.compile(pattern)
     for name, pattern in {
-        "alloca": rf"(%r\d+) = alloca (?:\[(\d+) x i8\]|{INT}|ptr), align \d+",
+        "alloca": rf"(%r\d+) = alloca (\[\d+ x i8\]|{INT}|ptr), align \d+",
         "load": rf"(%r\d+) = load ({INT}|ptr), ptr (%[ra]\d+), align (\d+){NOTES}",
         "store": rf"store ({INT}|ptr) ({VALUE}), ptr (%[ra]\d+), align (\d+)",
         "offset": rf"(%r\d+) = getelementptr (?:inbounds nuw )?i8, ptr (%[ra]\d+), i64 ({VALUE})",
@@ -112,7 +115,7 @@ DEFINE = re.compile(rf"define (internal )?(?:noundef (?:zeroext )?)?(void|{INT})
 PARAMETER = re.compile(rf"({INT}|ptr) noundef (?:zeroext )?(%a\d+)")
 ARGUMENT = re.compile(rf"({INT}|ptr) (?:zeroext )?({VALUE})")
 OTHER = re.compile(
-    r"|;.*|source_filename = .*|!.*"
+    r'|;.*|source_filename = "rattle"|!llvm\.ident = !\{!\d+\}|!\d+ = !\{(?:|i8 0, i8 2|!"rattle logic=[0-9a-f]+")\}'
     r"|declare void @llvm\.memmove\.p0\.p0\.i64\(ptr writeonly captures\(none\), ptr readonly captures\(none\), i64, i1 immarg\) #1"
     r"|declare void @llvm\.memset\.p0\.i64\(ptr writeonly captures\(none\), i8, i64, i1 immarg\) #2"
     r"|attributes #1 = \{ nocallback nofree nounwind willreturn memory\(argmem: readwrite\) \}"
@@ -198,8 +201,9 @@ class Module:
             except KeyError as error:
                 raise Refused(f"line {number_}: {error} isn't a pointer that was followed: {text}") from None
 
-    def alloca(self, places, where, result, _):
+    def alloca(self, places, where, result, kind):
         places[result] = (self.new(where), 0)
+        places[result][0].narrow = kind == "ptr"
 
     def load(self, places, where, result, kind, source, alignment):
         if kind == "ptr":
@@ -263,6 +267,8 @@ def aligned(where, alignment):
 
 def check(node):
     """Refuses an object in which a pointer's bytes are also something else."""
+    if node.narrow and (node.edges or node.varying):
+        raise Refused(f"memory of {node.name}: it is as wide as a pointer, and is copied as bytes or reached at places that aren't constant")
     if node.varying and node.pointers:
         raise Refused(f"memory of {node.name}: it holds a pointer and is reached at places that aren't constant")
     for at in node.pointers:
@@ -326,6 +332,8 @@ ROWS = [
     ("a pointer is made of zeros", SLICE + "  call void @llvm.memset.p0.i64(ptr %r0, i8 0, i64 16, i1 false)", "a number of 16 bytes"),
     ("half a pointer is copied", SLICE + "  %r2 = alloca [16 x i8], align 8\n"
      "  call void @llvm.memmove.p0.p0.i64(ptr %r2, ptr %r0, i64 4, i1 false)", "a copy of a part of it"),
+    ("a variable that is a pointer is copied as bytes", "  %r0 = alloca ptr, align 8\n  %r1 = alloca [8 x i8], align 8\n"
+     "  call void @llvm.memmove.p0.p0.i64(ptr %r1, ptr %r0, i64 8, i1 false)", "as wide as a pointer"),
     ("a pointer stands at any place", "  %r0 = alloca [64 x i8], align 8\n  %r1 = getelementptr i8, ptr %r0, i64 %a1\n"
      "  store ptr %a0, ptr %r1, align 8", "places that aren't constant"),
     ("two of 4 bytes", SLICE + "  %r2 = getelementptr i8, ptr %r0, i64 4\n  store ptr %a0, ptr %r2, align 4", "multiple of 4 bytes"),
@@ -354,6 +362,7 @@ def self_test():
         ("another triple", plain.replace(TRIPLE, "aarch64-unknown-linux-gnu"), "another triple"),
         ("other attributes", plain.replace("nounwind", "nounwind uwtable"), "another attributes"),
         ("no layout", plain[plain.index("\n") + 1:], "no datalayout"),
+        ("a flag of the module's", plain + '!llvm.module.flags = !{!1}\n', "a form that isn't known"),
         ("a variable", "@counter = global i64 0\n" + plain, "a form that isn't known"),
         ("a function from elsewhere", "declare ptr @malloc(i64)\n" + plain, "a form that isn't known"),
     ]
