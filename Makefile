@@ -17,8 +17,7 @@ PROVED := crates.txt $(shell find crates -name '*.rt' -o -name '*.antt')
 CALLING := rust/Cargo.toml rust/Cargo.lock rust/tools/aligned_archive.sh rust/tools/archive.rs $(shell find rust/jws/src rust/jws/build.rs rust/jws/Cargo.toml \
     rust/jws-cli/src rust/jws-cli/Cargo.toml -type f)
 
-# What the archives for other processors are compiled by. MACHINES names those of `make test-nodes`; all of them where it is empty.
-NODES := nodes/build.py nodes/module.py include/jws.h nodes/freestanding/stdint.h
+# The machines of `make test-nodes`; all of them where it is empty.
 MACHINES =
 
 # What `make install` writes, below DESTDIR.
@@ -56,7 +55,7 @@ $(PKGCONFIG): jws.pc.in rust/Cargo.toml
 run: $(COMMANDS)
 	@examples/setpoint.sh rust/target/release target/run
 
-nodes: $(ARCHIVE) $(NODES)
+nodes: $(ARCHIVE)
 	$(call need,python3,it compiles the proved module for other processors)
 	@python3 nodes/build.py
 
@@ -90,7 +89,7 @@ help:
 	@echo 'make run        an example in one go: a key table, a signed setpoint, a forged one refused, the signed one accepted'
 	@echo 'make test       the whole gate (.ci/run): proofs from nothing, must-fail edits, programs, Rust and C tests'
 	@echo 'make nodes      archives for the processors of nodes below target/nodes, and target/nodes/jws.wasm, each with its size'
-	@echo 'make test-nodes runs them on their processors, emulated by qemu (Debian: qemu-system-arm qemu-system-misc qemu-user nodejs), and compares'
+	@echo 'make test-nodes runs them on their processors, most of them emulated by qemu, and compares; it says which packages of Debian it lacks'
 	@echo 'make install    lib/libjws.a, include/jws.h, lib/pkgconfig/jws.pc, bin/jws-table and bin/jws-token to PREFIX ($(PREFIX)), below DESTDIR'
 	@echo 'make uninstall  removes these files'
 	@echo 'make clean      removes target and rust/target'

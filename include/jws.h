@@ -2,14 +2,16 @@
  * Compact JSON Web Signatures (RFC 7515) with HMAC-SHA-256: verify a token, sign one, and read a header's members.
  *
  * Link the archive (`-ljws` where it was installed by `make install`, else target/staticlib/libjws_ffi.a, which `make` writes; for a node's
- * own processor target/nodes/NAME/libjws.a, which `make nodes` writes) and the C library, of which memset and memcpy are called, on ARM by
- * its run-time ABI's names. There is no heap, no global state and no error but the answer, so calls may run on any threads at once.
+ * own processor target/nodes/NAME/libjws.a, which `make nodes` writes) and the C library, of which memset and memcpy are called, on 32-bit
+ * ARM by the names of its run-time ABI; for a Cortex-M0 also its functions that multiply and divide 64 bits. There is no heap, no global
+ * state and no error but the answer, so calls may run on any threads at once.
  *
  * Of every call:
  * - a pointer comes with its length; where the length is 0, the pointer may be null and is not followed;
  * - lengths are 64 bits wide whatever the processor; a length times the size of what it counts is below 2^63, as in any object of C;
  * - bytes (token, table, header, payload) may stand at any address; words (`record`, `length`, `member`) stand at a multiple of 8, which is
- *   where C puts a uint64_t on each of these processors;
+ *   where C puts a uint64_t on each of these processors. ARM processors, but for the Cortex-M0, must let words be read at any address, as
+ *   they do after reset (CCR.UNALIGN_TRP is 0) and, of 64 bits, in memory that is mapped as normal memory;
  * - what is lent for writing (the buffers, `record`, `length`, `member`) overlaps nothing else that is lent to the same call;
  * - `record`, `length` and `member` are never null;
  * - an answer is 0, or the number of the first rule that refuses, in the order said at each function. Any number but 0 is a refusal, also

@@ -4,7 +4,7 @@ import struct
 HEAD = 32  # of a call: its function, its shift, the lengths of four areas, k
 INPUTS = {1: 2, 2: 3, 3: 1, 4: 0, 5: 0}  # how many areas are read, by the function
 WORDS = {1: 9, 2: 1, 3: 5}  # how many words are written; others have no areas
-GUARD_WORDS, GUARD, AREAS, RECORD = 4, 16, 4, 72
+GUARD_WORDS, GUARD, AREAS, RECORD = 2, 16, 4, 72
 
 
 def split(calls):
@@ -14,7 +14,7 @@ def split(calls):
         shift, *lengths = struct.unpack_from("<5I", calls, at + 4)
         end = at + HEAD + (RECORD if function == 4 else sum(lengths[:INPUTS[function]]))
         arena = shift + (AREAS + 1) * GUARD + sum(lengths)
-        found.append((calls[at:end], 8 + (8 * (WORDS[function] + GUARD_WORDS) + arena if function in WORDS else 0)))
+        found.append((calls[at:end], 8 + (8 * (WORDS[function] + 2 * GUARD_WORDS) + arena if function in WORDS else 0)))
         at = end
     return found
 

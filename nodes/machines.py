@@ -4,11 +4,13 @@ import re
 import shutil
 from dataclasses import dataclass, field
 
-import build
+from build import INCLUDE
+from kit import HERE, OUT, run
 
-C_WORDS = ["-std=c11", "-O2", "-Wall", "-Wextra", "-Werror", f"-I{build.INCLUDE}"]
-FREESTANDING = ["-ffreestanding", "-fno-builtin", "-nostdinc", "-isystem", os.path.join(build.HERE, "freestanding"), "-ffunction-sections"]
-RUNTIME = os.path.join(build.HERE, "freestanding", "runtime.c")
+C_WORDS = ["-std=c11", "-O2", "-Wall", "-Wextra", "-Werror", f"-I{INCLUDE}"]
+FREESTANDING = ["-ffreestanding", "-fno-builtin", "-nostdinc", "-isystem", os.path.join(HERE, "freestanding"), "-ffunction-sections"]
+GCC = "arm-none-eabi-gcc"
+RUNTIME = os.path.join(HERE, "freestanding", "runtime.c")
 
 # A program reads and writes files of this machine by semihosting.
 SEMIHOSTING = ["-semihosting-config", "enable=on,target=native", "-nographic", "-monitor", "none", "-serial", "none"]
@@ -30,6 +32,7 @@ class Machine:
     memory: tuple = ()  # where the program stands, and what it writes; none where an operating system says it
     counted: list = field(default_factory=list)
     board: str = ""  # the board of examples/node, if it has one for this machine
+    also: tuple = ()  # what else is done on it: a name for that, the program that does it, and where Debian has that
 
     def start(self, program, counted=False):
         """The words that start a program on it."""
@@ -39,11 +42,26 @@ class Machine:
 
     def unable(self):
         """Why it can't be run here, if so."""
-        if shutil.which(self.program) is None:
-            return f"{self.program} not here (Debian: {self.package})"
-        if self.archive == "x86-64-v3" and not {"avx2", "bmi1", "bmi2", "fma", "movbe"} <= processor_flags():
+        if not has(self.program):
+            return missing(self.program, self.package)
+        if self.archive == "x86-64-v3" and not {"avx2", "bmi1", "bmi2", "f16c", "fma", "abm", "movbe"} <= processor_flags():
             return "this processor is older than x86-64-v3"
         return None
+
+    def lacking(self):
+        """What else can't be done on it here, each with its reason."""
+        return {name: missing(program, package) for name, program, package in self.also if not has(program)}
+
+
+def has(program):
+    """Whether a program is here; of GCC for Arm its C library too."""
+    if program == GCC and shutil.which(GCC):
+        return os.path.isabs(run([GCC, "-mcpu=cortex-m4", "-mthumb", "-print-file-name=libc.a"]).strip())
+    return shutil.which(program) is not None
+
+
+def missing(program, package):
+    return f"{program} not here (Debian 12: {package})"
 
 
 def processor_flags():
@@ -53,9 +71,9 @@ def processor_flags():
 
 
 def cortex_m(name, archive, board, memory, *options, words=(), example=""):
-    what = f"qemu's {board}" + (" with 128 KiB" if options else "")
-    return Machine(name, archive, what, "qemu-system-arm", "qemu-system-arm", ["-M", board, *options],
-                   [f"--target={archive}-none-eabi", *words], memory, COUNTED_BY_TIMER, example)
+    by_gcc = (("examples/node by GCC", GCC, "gcc-arm-none-eabi libnewlib-arm-none-eabi"),) if example else ()
+    return Machine(name, archive, f"qemu's {board}", "qemu-system-arm", "qemu-system-arm", ["-M", board, *options],
+                   [f"--target={archive}-none-eabi", *words], memory, COUNTED_BY_TIMER, example, by_gcc)
 
 
 RV32 = ["--target=riscv32-unknown-none-elf", "-march=rv32imac_zicsr", "-mabi=ilp32", "-mcmodel=medany"]
@@ -65,7 +83,7 @@ RISCV_MEMORY = (0x80000000, 0x80100000)
 NO_FPU = ["-mfpu=none"]
 
 MACHINES = [
-    # The board itself has 16 KiB: enough for its example, and not for the longest calls with all that they are compared by.
+    # The board itself has 16 KiB: enough for its example, and not for the longest calls with all that they are compared by; so it gets 128.
     cortex_m("cortex-m0", "thumbv6m", "microbit", (0, 0x20000000), "-global", "nrf51-soc.sram-size=131072", example="microbit"),
     cortex_m("cortex-m3", "thumbv7m", "mps2-an385", (0, 0x20000000)),
     cortex_m("cortex-m4", "thumbv7em", "mps2-an386", (0, 0x20000000), words=NO_FPU, example="mps2-an386"),
@@ -78,7 +96,7 @@ MACHINES = [
     Machine("aarch64", "aarch64", "qemu's virt, Cortex-A53", "qemu-system-aarch64", "qemu-system-arm", ["-M", "virt", "-cpu", "cortex-a53"], A64,
             (0x40100000, 0x40200000), COUNTED),
     Machine("aarch64-process", "aarch64", "qemu-aarch64", "qemu-aarch64", "qemu-user", words=[*A64, "-DPROCESS"]),
-    Machine("x86-64-v3", "x86-64-v3", "this machine", "cc", "gcc"),
+    Machine("x86-64-v3", "x86-64-v3", "this machine", "cc", "gcc", also=(("counting instructions", "valgrind", "valgrind"),)),
     Machine("wasm", "wasm", "node", "node", "nodejs"),
 ]
 
@@ -94,8 +112,8 @@ def objects(kit, machine, sources, folder):
 
 def link(kit, machine, layout, paths, program):
     """Links objects and the machine's archive by the kit's linker."""
-    build.run([kit.tool("ld.lld"), "-nostdlib", "--gc-sections", *layout, *paths, archive_of(machine), "-o", program])
+    run([kit.tool("ld.lld"), "-nostdlib", "--gc-sections", *layout, *paths, archive_of(machine), "-o", program])
 
 
 def archive_of(machine):
-    return os.path.join(build.OUT, machine.archive, "libjws.a")
+    return os.path.join(OUT, machine.archive, "libjws.a")

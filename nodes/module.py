@@ -10,7 +10,7 @@ means the same with shorter pointers if a pointer is nowhere taken for a number.
 and none of them turns one into the other; what is left is memory that is written as the one and read as the other. So each piece of memory
 is followed through every function: what a pointer may point to is one object, and copies and calls make objects one (points-to analysis by
 unification). In no object may a pointer's eight bytes overlap a number, a filled range, a part of a copy, or a place that isn't constant;
-and no variable that is a pointer, and so narrower on such a processor, may be copied as bytes.
+and a variable that is a pointer, and so narrower on such a processor, may be nothing else. What C lends may hold no pointer.
 
 Every other form is refused with its line: it may be right, but nobody has looked.
 """
@@ -145,6 +145,8 @@ class Module:
         for node in self.objects:
             if node.root is None:
                 check(node)
+        for name in self.exported:
+            self.check_lent(name)
 
     def summary(self):
         roots = [node for node in set(self.objects) if node.root is None]
@@ -226,12 +228,12 @@ class Module:
         node, at = places[source]
         places[result] = (node, at + int(by) if by.lstrip("-").isdigit() and at is not None else None)
 
-    def copy(self, places, where, target, source, count):
+    def copy(self, places, _, target, source, count):
         self.ends(places, target, count)
         self.ends(places, source, count)
         join(places[target], places[source])
 
-    def fill(self, places, where, target, count):
+    def fill(self, places, _, target, count):
         number(places[target], int(count))
 
     def ends(self, places, name, count):
@@ -252,6 +254,13 @@ class Module:
                 join(place, places[value])
 
 
+    def check_lent(self, name):
+        """What C lends has C's layout, in which pointers are narrower: it may hold none."""
+        for parameter, place in self.parameters[name]:
+            if place and find(place)[0].pointers:
+                raise Refused(f"{name}: {parameter} points to memory that holds a pointer")
+
+
 def nothing(*_):
     """An instruction on numbers alone, or one that goes elsewhere: no memory, no pointer."""
 
@@ -267,8 +276,8 @@ def aligned(where, alignment):
 
 def check(node):
     """Refuses an object in which a pointer's bytes are also something else."""
-    if node.narrow and (node.edges or node.varying):
-        raise Refused(f"memory of {node.name}: it is as wide as a pointer, and is copied as bytes or reached at places that aren't constant")
+    if node.narrow and (node.edges or node.numbers or node.varying):
+        raise Refused(f"memory of {node.name}: it is as wide as a pointer, and is copied as bytes, holds a number or is reached at any place")
     if node.varying and node.pointers:
         raise Refused(f"memory of {node.name}: it holds a pointer and is reached at places that aren't constant")
     for at in node.pointers:
@@ -334,6 +343,9 @@ ROWS = [
      "  call void @llvm.memmove.p0.p0.i64(ptr %r2, ptr %r0, i64 4, i1 false)", "a copy of a part of it"),
     ("a variable that is a pointer is copied as bytes", "  %r0 = alloca ptr, align 8\n  %r1 = alloca [8 x i8], align 8\n"
      "  call void @llvm.memmove.p0.p0.i64(ptr %r1, ptr %r0, i64 8, i1 false)", "as wide as a pointer"),
+    ("it holds a number", "  %r0 = alloca ptr, align 8\n  store i64 %a1, ptr %r0, align 8", "as wide as a pointer"),
+    ("it is filled", "  %r0 = alloca ptr, align 8\n  call void @llvm.memset.p0.i64(ptr %r0, i8 0, i64 8, i1 false)", "as wide as a pointer"),
+    ("a pointer is read from what C lends", "  %r0 = load ptr, ptr %a0, align 8", "memory that holds a pointer"),
     ("a pointer stands at any place", "  %r0 = alloca [64 x i8], align 8\n  %r1 = getelementptr i8, ptr %r0, i64 %a1\n"
      "  store ptr %a0, ptr %r1, align 8", "places that aren't constant"),
     ("two of 4 bytes", SLICE + "  %r2 = getelementptr i8, ptr %r0, i64 4\n  store ptr %a0, ptr %r2, align 4", "multiple of 4 bytes"),

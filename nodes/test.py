@@ -18,15 +18,20 @@ import sys
 import build
 import calls
 import firmware
+from kit import ARCHIVE, CRATE, HERE, ROOT, Kit, run
+from kit import OUT as NODES
 from machines import C_WORDS, MACHINES, RUNTIME, archive_of, link, objects
 from module import Refused
 
-OUT = os.path.join(build.OUT, "test")
-SOURCE = os.path.join(build.HERE, "test")
+OUT = os.path.join(NODES, "test")
+SOURCE = os.path.join(HERE, "test")
 COUNT = 7_000  # calls of each of three functions
 LOOP = 200_000  # instructions of the runner's loop
 TIMED = ["verify 179", "verify 16000", "sign 179", "sign 16000"]  # the first of the figures: a function, and the token's bytes
 KINDS = ["verify", "sign", "member"]
+MINUTES = 10  # what is done in seconds, and isn't by then, hangs
+# The most text, and the most stack of verifying, that an archive may have.
+LIMITS = {"thumbv7em": (21_000, 5_000)}
 
 
 def read(name):
@@ -41,15 +46,15 @@ def write(name, content):
 
 def write_calls():
     """The files of calls, with what the x86-64 archive leaves; gives what they are."""
-    rust = os.path.join(build.ROOT, "rust")
-    build.run(["cargo", "build", "--quiet", "--offline", "--locked", "--release", "-p", "jws", "--example", "node_calls"], cwd=rust)
-    target = os.environ.get("CARGO_TARGET_DIR", os.path.join(rust, "target"))
-    return build.run([os.path.join(target, "release", "examples", "node_calls"), OUT, str(COUNT)]).strip()
+    rust = os.path.join(ROOT, "rust")
+    run(["cargo", "build", "--quiet", "--offline", "--locked", "--release", "-p", "jws", "--example", "node_calls"], cwd=rust)
+    target = os.path.join(rust, os.environ.get("CARGO_TARGET_DIR", "target"))
+    return run([os.path.join(target, "release", "examples", "node_calls"), OUT, str(COUNT)]).strip()
 
 
 def native_runner(archive, program):
     """The runner for this machine. Functions are bound before the first call."""
-    build.run(["cc", *C_WORDS, "-Wl,-z,now", f"{SOURCE}/runner.c", f"{SOURCE}/machine_posix.c", archive, "-o", program])
+    run(["cc", *C_WORDS, "-Wl,-z,now", f"{SOURCE}/runner.c", f"{SOURCE}/machine_posix.c", archive, "-o", program])
 
 
 def compile_runner(kit, machine):
@@ -77,8 +82,11 @@ def run_calls(machine, program, name, counted=False):
     shutil.copyfile(os.path.join(OUT, name), os.path.join(folder, "calls.bin"))
     words = machine.start(program, counted)
     if machine.name == "wasm":
-        words = ["node", f"{SOURCE}/runner.mjs", os.path.join(build.OUT, "jws.wasm"), *(["2000"] if counted else [])]
-    done = subprocess.run(words, cwd=folder, stdin=subprocess.DEVNULL, capture_output=True, text=True, timeout=1800, check=False)
+        words = ["node", f"{SOURCE}/runner.mjs", os.path.join(NODES, "jws.wasm"), *(["2000"] if counted else [])]
+    try:
+        done = subprocess.run(words, cwd=folder, stdin=subprocess.DEVNULL, capture_output=True, text=True, timeout=MINUTES * 60, check=False)
+    except subprocess.TimeoutExpired:
+        raise Refused(f"{machine.name}: the runner of {name} isn't done after {MINUTES} minutes") from None
     if done.returncode != 0:
         raise Refused(f"{machine.name}: the runner ended with {done.returncode}: {(done.stdout + done.stderr)[:500]}")
     outcomes, figures = read(os.path.join(folder, "outcomes.bin")), read(os.path.join(folder, "figures.bin"))
@@ -164,7 +172,7 @@ def header_test(kit):
     changed = header.replace("uint64_t payload_len);", "unsigned long payload_len);")
     with open(os.path.join(folder, "jws.h"), "w", encoding="utf-8") as file:
         file.write(changed)
-    with open(os.path.join(build.OUT, "module.ll"), encoding="utf-8") as file:
+    with open(os.path.join(NODES, "module.ll"), encoding="utf-8") as file:
         text = file.read()
     module, refused = build.Module(text), []
     for target in build.TARGETS:
@@ -177,24 +185,33 @@ def header_test(kit):
         raise Refused(f"a length of the processor's own width in jws.h is refused for {refused}, and not for {narrow}")
 
 
+def check_limits(machine, most):
+    """The archive keeps to its limits, if it has some."""
+    text = build.elf.Object(os.path.join(os.path.dirname(archive_of(machine)), f"{CRATE}.o")).text_bytes() if most else 0
+    most_text, most_stack = LIMITS.get(machine.archive, (text, most.get("jws_verify")))
+    if text > most_text or most and most["jws_verify"] > most_stack:
+        raise Refused(f"{machine.archive}: {text:,} bytes of text of {most_text:,}, {most['jws_verify']:,} of stack of {most_stack:,}")
+
+
 def tested(kit, machine):
     """Tests a machine; gives what is said of it, line by line."""
     program = compile_runner(kit, machine)
     count, figures = compare(machine, program)
     target = next(target for target in build.TARGETS if target.name == machine.archive)
     most = {} if machine.name == "wasm" else build.stack_bounds(kit, target, archive_of(machine))
+    check_limits(machine, most)
     yield f"{machine.name} ({machine.archive} on {machine.what}): {count:,} calls, 0 differences; {measured(machine, figures, most)}"
     if machine.board:
-        yield firmware.run(kit, machine, os.path.join(OUT, machine.name, "firmware"))
+        yield firmware.tested(kit, machine, os.path.join(OUT, machine.name, "firmware"), most)
     if machine.name == "x86-64-v3":
         self_test(machine, program)
-        yield build.run([sys.executable, os.path.join(build.ROOT, "rust", "tools", "no_early_exit.py"), archive_of(machine)]).strip()
-        if shutil.which("valgrind"):
-            for name, archive in (("x86-64-v3", archive_of(machine)), ("x86-64", build.ARCHIVE)):
+        yield run([sys.executable, os.path.join(ROOT, "rust", "tools", "no_early_exit.py"), archive_of(machine)]).strip()
+        if not machine.lacking():
+            for name, archive in (("x86-64-v3", archive_of(machine)), ("x86-64", ARCHIVE)):
                 yield f"{name}: {x86_instructions(machine, archive)}"
     if machine.name == "wasm":
         self_test(machine, program)
-        yield "examples/verify.mjs: " + build.run(["node", os.path.join(build.ROOT, "examples", "verify.mjs")]).strip().splitlines()[-1]
+        yield "examples/verify.mjs: " + run(["node", os.path.join(ROOT, "examples", "verify.mjs")]).strip().splitlines()[-1]
 
 
 def chosen(words):
@@ -205,19 +222,20 @@ def chosen(words):
     wanted = [machine for machine in MACHINES if not names or machine.name in names]
     missing = {}
     for machine in wanted:
-        if reason := machine.unable():
-            missing.setdefault(reason, []).append(machine.name)
+        lacking = {machine.name: reason} if (reason := machine.unable()) else machine.lacking()
+        for name, reason in lacking.items():
+            missing.setdefault(reason, {})[name] = None
     if missing:
-        said = "; ".join(f"{', '.join(machines)}: {reason}" for reason, machines in missing.items())
+        said = "; ".join(f"{', '.join(names)}: {reason}" for reason, names in missing.items())
         if "--here" not in words:
-            raise Refused(f"these machines can't be run: {said}")
+            raise Refused(f"not all can be run: {said}")
         print(f"nodes/test.py: not run: {said}", flush=True)
     return [machine for machine in wanted if not machine.unable()]
 
 
 def main(words):
     machines = chosen(words)
-    kit = build.Kit.found()
+    kit = Kit.found()
     build.main([])
     os.makedirs(OUT, exist_ok=True)
     header_test(kit)

@@ -31,14 +31,15 @@ static void verify(void)
     answer = jws_verify(token, token_length, table, sizeof table, header, sizeof header, payload, sizeof payload, record);
 }
 
-/* Takes a line. One that doesn't fit is a token that is too long by a byte, and isn't read. */
+/* Takes a line. Of one that is too long a byte more than there is room for counts, and no further one. */
 static void receive_line(void)
 {
     uint8_t byte;
     token_length = 0;
     while ((byte = board_receive()) != '\n') {
-        token[token_length] = byte;
-        token_length += token_length < TOKEN_ROOM;
+        if (token_length <= TOKEN_ROOM) {
+            token[token_length++] = byte;
+        }
     }
 }
 
@@ -86,7 +87,7 @@ int main(void)
     }
     for (;;) {
         receive_line();
-        if (token_length == TOKEN_ROOM) {
+        if (token_length > TOKEN_ROOM) {
             say("too long for this node: ");
         } else {
             on_call_stack(verify);

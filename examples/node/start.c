@@ -4,6 +4,12 @@
 extern uint32_t stack_top[], data_start[], data_end[], data_load[], bss_start[], bss_end[];
 int main(void);
 
+static void stop(void)
+{
+    for (;;) {
+    }
+}
+
 void reset(void)
 {
     uint32_t *to, *from = data_load;
@@ -15,18 +21,12 @@ void reset(void)
     }
     board_start();
     main();
+    stop();
 }
 
 /* A fault stops the node where it is: the last setpoint stays. */
-static void fault(void)
-{
-    for (;;) {
-    }
-}
-
 __attribute__((section(".vectors"), used)) static const void *const vectors[16] = {
-    stack_top, (const void *)reset, (const void *)fault, (const void *)fault, (const void *)fault, (const void *)fault,
-    (const void *)fault,
+    stack_top, (const void *)reset, (const void *)stop, (const void *)stop, (const void *)stop, (const void *)stop, (const void *)stop,
 };
 
 static uint8_t call_stack[CALL_STACK] __attribute__((aligned(8)));

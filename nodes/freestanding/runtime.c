@@ -5,19 +5,22 @@
  */
 #include <stdint.h>
 
+/* Four bytes of anything. */
+typedef uint32_t __attribute__((may_alias)) four;
+
 static void copy(uint8_t *to, const uint8_t *from, uintptr_t count)
 {
     if ((((uintptr_t)to | (uintptr_t)from) & 3) == 0) {
         for (; count >= 16; count -= 16, to += 16, from += 16) {
-            uint32_t a = ((const uint32_t *)from)[0], b = ((const uint32_t *)from)[1];
-            uint32_t c = ((const uint32_t *)from)[2], d = ((const uint32_t *)from)[3];
-            ((uint32_t *)to)[0] = a;
-            ((uint32_t *)to)[1] = b;
-            ((uint32_t *)to)[2] = c;
-            ((uint32_t *)to)[3] = d;
+            uint32_t a = ((const four *)from)[0], b = ((const four *)from)[1];
+            uint32_t c = ((const four *)from)[2], d = ((const four *)from)[3];
+            ((four *)to)[0] = a;
+            ((four *)to)[1] = b;
+            ((four *)to)[2] = c;
+            ((four *)to)[3] = d;
         }
         for (; count >= 4; count -= 4, to += 4, from += 4) {
-            *(uint32_t *)to = *(const uint32_t *)from;
+            *(four *)to = *(const four *)from;
         }
     }
     for (; count > 0; count--) {
@@ -32,10 +35,10 @@ static void fill(uint8_t *to, uint8_t byte, uintptr_t count)
         *to++ = byte;
     }
     for (; count >= 16; count -= 16, to += 16) {
-        ((uint32_t *)to)[0] = word;
-        ((uint32_t *)to)[1] = word;
-        ((uint32_t *)to)[2] = word;
-        ((uint32_t *)to)[3] = word;
+        ((four *)to)[0] = word;
+        ((four *)to)[1] = word;
+        ((four *)to)[2] = word;
+        ((four *)to)[3] = word;
     }
     for (; count > 0; count--) {
         *to++ = byte;

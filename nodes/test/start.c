@@ -17,6 +17,12 @@ void machine_loop(uint32_t rounds)
 #endif
 }
 
+/* A fault ends the program. */
+__attribute__((used, aligned(4))) static void fault(void)
+{
+    machine_end(4);
+}
+
 #if defined(PROCESS)
 
 uint64_t machine_ticks(void)
@@ -55,20 +61,14 @@ void _start(void)
     main();
 }
 
-static void fault(void)
-{
-    machine_end(4);
-}
-
 extern uint8_t stack_top[];
 __attribute__((section(".vectors"), used)) static const void *const vectors[16] = {
-    stack_top, (const void *)_start, (const void *)fault, (const void *)fault, (const void *)fault, (const void *)fault,
-    (const void *)fault,
+    stack_top, (const void *)_start, (const void *)fault, (const void *)fault, (const void *)fault, (const void *)fault, (const void *)fault,
 };
 
 #elif defined(__aarch64__)
 
-/* An Arm Cortex-A without an operating system: floating-point registers on, the cycle counter on. */
+/* An Arm Cortex-A without an operating system. */
 uint64_t machine_ticks(void)
 {
     uint64_t cycles;
@@ -76,13 +76,30 @@ uint64_t machine_ticks(void)
     return cycles;
 }
 
+/* All of memory as it stands, in one block, and as normal memory: in any other words may not be read at every address. */
+static uint64_t blocks[512] __attribute__((aligned(4096)));
+
+__attribute__((used)) static void map_memory(void)
+{
+    uint64_t normal = 0xFF, control;
+    uint64_t translation = 25 | 1 << 8 | 1 << 10 | 3 << 12 | 1 << 23; /* 39 bits, cached, shared, no other half */
+    blocks[1] = 0x40000000 | 1 << 10 | 3 << 8 | 1;                    /* the second gibibyte: accessed, shared, a block */
+    __asm__ volatile("msr mair_el1, %1\nmsr tcr_el1, %2\nmsr ttbr0_el1, %3\nisb\n"
+                     "mrs %0, sctlr_el1\norr %0, %0, #1\nmsr sctlr_el1, %0\nisb"
+                     : "=&r"(control) : "r"(normal), "r"(translation), "r"(blocks) : "memory");
+}
+
+/* The stack, the registers of 128 bits, faults, memory, the cycle counter. */
 __attribute__((naked, section(".vectors"))) void _start(void)
 {
     __asm__("ldr x0, =stack_top\nmov sp, x0\n"
             "mov x0, #(3 << 20)\nmsr cpacr_el1, x0\nisb\n"
+            "ldr x0, =faults\nmsr vbar_el1, x0\n"
+            "bl map_memory\n"
             "mov x0, #1\nmsr pmcr_el0, x0\n"
             "mov x0, #(1 << 31)\nmsr pmcntenset_el0, x0\n"
-            "b main");
+            "b main\n"
+            ".balign 2048\nfaults:\n.rept 16\nb fault\n.balign 128\n.endr");
 }
 
 #else
@@ -105,7 +122,7 @@ uint64_t machine_ticks(void)
 
 __attribute__((naked, section(".vectors"))) void _start(void)
 {
-    __asm__("la sp, stack_top\nj main");
+    __asm__("la sp, stack_top\nla t0, fault\ncsrw mtvec, t0\nj main");
 }
 
 #endif

@@ -6,55 +6,32 @@
 
 A function's frame is its return address, what it pushes and what it takes off the stack pointer; a call path takes the sum of its
 frames. Of an archive for x86-64 both are read off the instructions; of an object (not an archive) for another processor the frames are what
-the compiler says of them, in its sections .stack_sizes (-fstack-size-section), and the calls its relocations. The readers of values, arrays and objects call one another: a round through them takes a level of the depth, of which there are
-eight, and a path past the last round may still enter each of them before the limit refuses it. memset and memcpy are the caller's and are
-not counted.
+the compiler says of them, in its sections .stack_sizes (-fstack-size-section), and the calls its relocations.
+
+The readers of values, arrays and objects call one another: a round through them takes a level of the depth, of which there are eight, and a
+path past the last round may still enter each of them before the limit refuses it. memset and memcpy are the caller's and are not counted.
 """
 import re
-import struct
 import subprocess
 import sys
 
+from elf import FUNCTION, REL, RELA, SECTION, Object, leb128
+
 ROUNDS = 8
-RELA, REL, FUNCTION, SECTION = 4, 9, 2, 3
 
 
 def read_sizes(path):
     """The same as `read`, of an ELF object with sections .stack_sizes, a function in each section of text."""
-    with open(path, "rb") as file:
-        data = file.read()
-    wide = data[4] == 2
-    at, = struct.unpack_from("<Q" if wide else "<I", data, 0x28 if wide else 0x20)
-    size, count, names = struct.unpack_from("<HHH", data, 0x3A if wide else 0x2E)
-    # name, type, flags, address, offset, size, link, info
-    rows = [struct.unpack_from("<IIQQQQII" if wide else "<IIIIIIII", data, at + size * index) for index in range(count)]
-    text = lambda start: data[start:data.index(b"\0", start)].decode()
-    sections = [text(rows[names][4] + row[0]) for row in rows]
-    function = {index: name.removeprefix(".text.") for index, name in enumerate(sections) if name.startswith(".text.")}
-    symbols = []  # the kind of each, and its section
-    for row in rows:
-        if row[1] == 2:
-            for entry in range(row[4], row[4] + row[5], 24 if wide else 16):
-                kind, section = data[entry + (4 if wide else 12)] & 15, struct.unpack_from("<H", data, entry + (6 if wide else 14))[0]
-                symbols.append((kind, section))
+    elf = Object(path)
+    function = {index: section.name.removeprefix(".text.") for index, section in enumerate(elf.sections) if section.name.startswith(".text.")}
     frames, calls = {}, {name: set() for name in function.values()}
-    for row, name in zip(rows, sections):
-        if name == ".stack_sizes":
-            place, value, shift = row[4] + (8 if wide else 4), 0, 0
-            while True:  # ULEB128
-                value |= (data[place] & 127) << shift
-                shift += 7
-                place += 1
-                if not data[place - 1] & 128:
-                    break
-            frames[function[row[6]]] = value
-        elif row[1] in (REL, RELA) and row[7] in function:
-            entry_size = {(True, RELA): 24, (False, RELA): 12, (True, REL): 16, (False, REL): 8}[wide, row[1]]
-            for entry in range(row[4], row[4] + row[5], entry_size):
-                info, = struct.unpack_from("<Q" if wide else "<I", data, entry + (8 if wide else 4))
-                kind, section = symbols[info >> (32 if wide else 8)]
-                if section in function and (kind == FUNCTION or kind == SECTION and section != row[7]):
-                    calls[function[row[7]]].add(function[section])
+    for section in elf.sections:
+        if section.name == ".stack_sizes":  # the function's address, and its frame
+            frames[function[section.link]] = leb128(elf.data, section.offset + (8 if elf.wide else 4))[0]
+        elif section.kind in (REL, RELA) and section.info in function:
+            for symbol in elf.relocated(section):
+                if symbol.section in function and (symbol.kind == FUNCTION or symbol.kind == SECTION and symbol.section != section.info):
+                    calls[function[section.info]].add(function[symbol.section])
     if missing := set(calls) - set(frames):
         sys.exit(f"{path}: no frame of {', '.join(sorted(missing))}")
     return frames, calls
