@@ -18,6 +18,7 @@ import sys
 import build
 import calls
 import firmware
+from build import elf
 from kit import ARCHIVE, CRATE, HERE, ROOT, Kit, run
 from kit import OUT as NODES
 from machines import C_WORDS, MACHINES, RUNTIME, archive_of, link, objects
@@ -185,12 +186,26 @@ def header_test(kit):
         raise Refused(f"a length of the processor's own width in jws.h is refused for {refused}, and not for {narrow}")
 
 
-def check_limits(machine, most):
-    """The archive keeps to its limits, if it has some."""
-    text = build.elf.Object(os.path.join(os.path.dirname(archive_of(machine)), f"{CRATE}.o")).text_bytes() if most else 0
-    most_text, most_stack = LIMITS.get(machine.archive, (text, most.get("jws_verify")))
-    if text > most_text or most and most["jws_verify"] > most_stack:
-        raise Refused(f"{machine.archive}: {text:,} bytes of text of {most_text:,}, {most['jws_verify']:,} of stack of {most_stack:,}")
+def size_of(machine, most):
+    """The bytes of an archive's text, or of the module of WebAssembly. The archive keeps to its limits, if it has some."""
+    if machine.name == "wasm":
+        return os.path.getsize(os.path.join(NODES, "jws.wasm"))
+    text, stack = elf.Object(os.path.join(os.path.dirname(archive_of(machine)), f"{CRATE}.o")).text_bytes(), most["jws_verify"]
+    most_text, most_stack = LIMITS.get(machine.archive, (text, stack))
+    if text > most_text or stack > most_stack:
+        raise Refused(f"{machine.archive}: {text:,} bytes of text, of {most_text:,}; {stack:,} of stack, of {most_stack:,}")
+    return text
+
+
+def check_papers(machine, size, most):
+    """The papers have this size and this bound of verifying's stack."""
+    figures = [f" {number:,}" for number in (size, most.get("jws_verify")) if number is not None]
+    start = f"| `{'jws.wasm' if machine.name == 'wasm' else machine.archive}` |"
+    for paper in ("README.md", os.path.join("docs", "MEASUREMENTS.md")):
+        with open(os.path.join(ROOT, paper), encoding="utf-8") as file:
+            row = next((line for line in file if line.startswith(start)), "")
+        if not all(re.search(rf"{figure}(?![\d,]*\d)", row) for figure in figures):
+            raise Refused(f"{paper} has other figures of {machine.archive} than{' and'.join(figures)}")
 
 
 def tested(kit, machine):
@@ -199,7 +214,7 @@ def tested(kit, machine):
     count, figures = compare(machine, program)
     target = next(target for target in build.TARGETS if target.name == machine.archive)
     most = {} if machine.name == "wasm" else build.stack_bounds(kit, target, archive_of(machine))
-    check_limits(machine, most)
+    check_papers(machine, size_of(machine, most), most)
     yield f"{machine.name} ({machine.archive} on {machine.what}): {count:,} calls, 0 differences; {measured(machine, figures, most)}"
     if machine.board:
         yield firmware.tested(kit, machine, os.path.join(OUT, machine.name, "firmware"), most)
