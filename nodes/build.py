@@ -62,7 +62,7 @@ TARGETS = [
     Target("riscv64gc", "RISC-V, 64 bits", ["--target=riscv64-unknown-linux-gnu", "-march=rv64gc", "-mabi=lp64d", "-mcmodel=medany", *SHARED],
            MEMORY),
     Target("aarch64", "Arm, 64 bits", ["--target=aarch64-unknown-linux-gnu", *SHARED], MEMORY),
-    Target("x86-64-v3", "x86-64 from 2013 on", ["--target=x86_64-unknown-linux-gnu", "-march=x86-64-v3", "-O3", "-fPIC"], MEMORY, probe=True),
+    Target("x86-64-v3", "x86-64 with AVX2", ["--target=x86_64-unknown-linux-gnu", "-march=x86-64-v3", "-O3", "-fPIC"], MEMORY, probe=True),
     Target("wasm", "WebAssembly", ["--target=wasm32-unknown-unknown", "-mbulk-memory", *SMALL], set()),
 ]
 
