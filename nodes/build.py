@@ -42,14 +42,14 @@ ARM_EITHER_FLOAT = 'module asm ".eabi_attribute 28, 3" ; Tag_ABI_VFP_args: compa
 
 @dataclass(frozen=True)
 class Target:
-    """A processor: the compiler's words, the functions that an archive for it may call, what is added to the module."""
+    """A processor: the compiler's words, and the functions that an archive for it may call."""
 
     name: str
     processors: str
     words: list
     calls: set
-    added: str = ""
-    probe: bool = False
+    added: str = ""  # to the module's text
+    probe: bool = False  # whether functions touch each page of a large frame, as the kit has it for x86-64
 
 
 TARGETS = [

@@ -53,6 +53,7 @@ def answer(process, line):
 
 
 def talk(machine, program):
+    """Holds the conversation with a firmware on its board, as it is: no memory is added."""
     words = [machine.program, "-M", machine.board, "-nographic", "-monitor", "none", "-serial", "stdio", "-kernel", program]
     with subprocess.Popen(words, stdin=subprocess.PIPE, stdout=subprocess.PIPE) as process:
         try:
@@ -85,7 +86,8 @@ BESIDES = 200
 def check_stack(most):
     """The firmware's stack for calls is long enough for the most that verifying takes."""
     with open(os.path.join(SOURCE, "board.h"), encoding="utf-8") as file:
-        room = sum(map(int, re.search(r"CALL_STACK = (\d+) \+ (\d+)", file.read()).groups()))
+        found = re.search(r"CALL_STACK = (\d+) \+ (\d+)", file.read())
+    room = sum(map(int, found.groups())) if found else 0
     if room < most["jws_verify"] + BESIDES:
         raise Refused(f"examples/node has {room:,} bytes of stack for calls, and verifying takes {most['jws_verify']:,} at most")
 

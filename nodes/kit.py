@@ -16,12 +16,15 @@ ROOT = os.path.dirname(HERE)
 OUT = os.path.join(ROOT, "target", "nodes")
 CRATE = "jws_ffi"
 ARCHIVE = os.path.join(ROOT, "target", "staticlib", f"lib{CRATE}.a")
+
 # What the kit calls its compiler with, but for the names of files and folders.
 KIT_WORDS = [
     "--target=x86_64-unknown-linux-gnu", "-march=x86-64", "-ffunction-sections", "-fdata-sections", "-mllvm", "-trap-unreachable",
     "-mllvm", "-no-trap-after-noreturn", "--no-default-config", "-no-canonical-prefixes", "-fintegrated-cc1", "-fno-crash-diagnostics",
     "-Werror", "-c", "-x", "ir", "IN", "-o", "OUT", "-fPIC", "-O3", "--sysroot=FOLDER",
 ]
+
+
 def run(words, **settings):
     """Runs a program and gives what it wrote; ends the build with what it said where it fails."""
     try:
@@ -113,6 +116,7 @@ def contents(path):
 
 
 def check_words():
+    """The kit compiled one module, by the known words."""
     kept = contents(os.path.join(OUT, "words"))
     calls = kept[0].decode().split("\n\n")[:-1] if kept else []
     if len(calls) != 1:

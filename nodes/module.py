@@ -253,7 +253,6 @@ class Module:
             if place is not None:
                 join(place, places[value])
 
-
     def check_lent(self, name):
         """What C lends has C's layout, in which pointers are narrower: it may hold none."""
         for parameter, place in self.parameters[name]:

@@ -186,15 +186,36 @@ def header_test(kit):
         raise Refused(f"a length of the processor's own width in jws.h is refused for {refused}, and not for {narrow}")
 
 
-def size_of(machine, most):
-    """The bytes of an archive's text, or of the module of WebAssembly. The archive keeps to its limits, if it has some."""
+EXAMPLE = os.path.join(ROOT, "examples", "verify.mjs")
+
+
+def example_test():
+    """The numbers that the example for WebAssembly has to say again are those of jws.h."""
+    with open(os.path.join(build.INCLUDE, "jws.h"), encoding="utf-8") as file:
+        header = dict(re.findall(r"\bJWS_(\w+)(?: =)? (\d+)", file.read()))
+    with open(EXAMPLE, encoding="utf-8") as file:
+        example = dict(re.findall(r"\b([A-Z]+(?:_[A-Z]+)*) = (\d+)", file.read()))
+    example.pop("TABLE_MAX")  # the specification's
+    for name, number in example.items():
+        if number not in (header.get(name), header.get(f"RECORD_{name}")):
+            raise Refused(f"examples/verify.mjs has {name} = {number}, and jws.h another number")
+    if len(example) != 10:
+        raise Refused(f"examples/verify.mjs has {len(example)} of jws.h's numbers, and not 10")
+
+
+def size_of(machine):
+    """The bytes of an archive's text, or of the module of WebAssembly."""
     if machine.name == "wasm":
         return os.path.getsize(os.path.join(NODES, "jws.wasm"))
-    text, stack = elf.Object(os.path.join(os.path.dirname(archive_of(machine)), f"{CRATE}.o")).text_bytes(), most["jws_verify"]
-    most_text, most_stack = LIMITS.get(machine.archive, (text, stack))
-    if text > most_text or stack > most_stack:
-        raise Refused(f"{machine.archive}: {text:,} bytes of text, of {most_text:,}; {stack:,} of stack, of {most_stack:,}")
-    return text
+    return elf.Object(os.path.join(os.path.dirname(archive_of(machine)), f"{CRATE}.o")).text_bytes()
+
+
+def check_limits(machine, text, most):
+    """The archive keeps to its limits, if it has some."""
+    if machine.archive in LIMITS:
+        most_text, most_stack = LIMITS[machine.archive]
+        if text > most_text or most["jws_verify"] > most_stack:
+            raise Refused(f"{machine.archive}: {text:,} bytes of text, of {most_text:,}; {most['jws_verify']:,} of stack, of {most_stack:,}")
 
 
 def check_papers(machine, size, most):
@@ -214,7 +235,9 @@ def tested(kit, machine):
     count, figures = compare(machine, program)
     target = next(target for target in build.TARGETS if target.name == machine.archive)
     most = {} if machine.name == "wasm" else build.stack_bounds(kit, target, archive_of(machine))
-    check_papers(machine, size_of(machine, most), most)
+    size = size_of(machine)
+    check_limits(machine, size, most)
+    check_papers(machine, size, most)
     yield f"{machine.name} ({machine.archive} on {machine.what}): {count:,} calls, 0 differences; {measured(machine, figures, most)}"
     if machine.board:
         yield firmware.tested(kit, machine, os.path.join(OUT, machine.name, "firmware"), most)
@@ -226,7 +249,8 @@ def tested(kit, machine):
                 yield f"{name}: {x86_instructions(machine, archive)}"
     if machine.name == "wasm":
         self_test(machine, program)
-        yield "examples/verify.mjs: " + run(["node", os.path.join(ROOT, "examples", "verify.mjs")]).strip().splitlines()[-1]
+        example_test()
+        yield "examples/verify.mjs: " + run(["node", EXAMPLE]).strip().splitlines()[-1]
 
 
 def chosen(words):
