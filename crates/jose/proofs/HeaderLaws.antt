@@ -89,10 +89,10 @@ module _ {v : Verdict} (m : Known) where
       ap₂ (λ (p q : Part). Chosen (record { «key_index» = i; «kid_present» = b; format = x; typ = p; cty = q })) y z
       ∙ sym (ap (λ (w : Verdict). decisionOf w m) e)
 
-with-texts : (n : ℕ) (f : Facts) (ks : List Key) (m : Known) → decisionOf (verdictBy n f ks) m ≡ decisionBy n (choiceBy f ks (rawOf (m .typ)) (rawOf (m .cty)))
+with-texts : (n : ℕ) (f : Facts) (m : Known) → decisionOf (verdictBy n f) m ≡ decisionBy n (choiceBy f (rawOf (m .typ)) (rawOf (m .cty)))
 unfolding choiceBy
-with-texts zero f ks m = refl
-with-texts (suc n) f ks m = refl
+with-texts zero f m = refl
+with-texts (suc n) f m = refl
 
 module _ (h : List ℕ) (q : Terms) where
   pub decision-unread : {n : ℕ} → n ≡ first (grammarTests deepest h) → (n ≡ 0 → ⊥) → Refused n ≡ decisionWith h q
@@ -111,7 +111,7 @@ module _ (h : List ℕ) (q : Terms) where
           ve,
           fe,
           ue,
-          with-texts (first later) (headerFacts h (q .keys)) (q .keys) m,
+          with-texts (first later) (headerFacts h (q .keys)) m,
           first-after (grammarTests deepest h) later refl fine,
           raw-item h inside typ (m .typ) (located h) (s theTyp .has),
           raw-item h inside cty (m .cty) (located h) (s theCty .has),

@@ -34,8 +34,8 @@ use json_rules::LONGEST;
 // The depth that is left for the values of the top object's members.
 const INSIDE: usize = DEEPEST - 1;
 
-// What the header decides with the keys of the table. Rules out that a bad table is answered as a bad header, and that a `kid` that
-// no key has falls back to the only key.
+// What the header decides with the keys of the table. Rules out that a bad table is answered as a bad header, and that a header
+// without `kid` finds a key.
 pub fn decide(header: &[u8], table: &[u8]) -> Decision
     ensures { λ r. ⌜ r ≡ decision (now (header .entry)) (now (table .entry)) ⌝ }
 {

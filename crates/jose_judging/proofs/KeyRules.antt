@@ -14,11 +14,11 @@ use Rattle.jose_rules.specs.Facts.{kidThere, chosenKey, formatBy, lacking, keyT
 use Rattle.jose_judging.specs.Judging.{keyVerdict}
 
 module _ (f : Facts) (ks : List Key) where
-  pub key-12 : none ≡ chosenKey (f .kid) ks → Verdict.Refused 12 ≡ keyVerdict f ks
+  pub key-12 : none ≡ chosenKey (f .kid) → Verdict.Refused 12 ≡ keyVerdict f ks
   unfolding keyVerdict
   key-12 e = rw (← e)
 
-  module _ {i : ℕ} (e : some i ≡ chosenKey (f .kid) ks) where
+  module _ {i : ℕ} (e : some i ≡ chosenKey (f .kid)) where
     pub key-13 : allowsHS256 (key ks i) ≡ false → Verdict.Refused 13 ≡ keyVerdict f ks
     unfolding keyVerdict
     key-13 a = rw (← e, a)
@@ -30,10 +30,10 @@ module _ (f : Facts) (ks : List Key) where
 
       pub key-taken : lacking (key ks i) z ≡ false → {b : Bool} → b ≡ kidThere (f .kid) → {m : ℕ} → m ≡ natAbs z → Verdict.Takes i b m ≡ keyVerdict f ks
       unfolding keyVerdict
-      key-taken l {b} p {m} q = taken ∙ ap (λ (n : ℕ). verdictBy n f ks) passes
+      key-taken l {b} p {m} q = taken ∙ ap (λ (n : ℕ). verdictBy n f) passes
         where
           passes : 0 ≡ first (keyTests f ks)
           passes = rw (← e, a, g, l)
 
-          taken : Verdict.Takes i b m ≡ Verdict.Takes (orElse (chosenKey (f .kid) ks) 0) (kidThere (f .kid)) (natAbs (orElse (formatBy (f .fmt)) (pos 0)))
+          taken : Verdict.Takes i b m ≡ Verdict.Takes (orElse (chosenKey (f .kid)) 0) (kidThere (f .kid)) (natAbs (orElse (formatBy (f .fmt)) (pos 0)))
           taken = rw (← e, g, p, q)

@@ -84,16 +84,16 @@ module _ (f u : Facts) where
 
 -- THE VERDICT
 
-refused : (n : ℕ) (f : Facts) (ks : List Key) → (n ≡ 0 → ⊥) → Verdict.Refused n ≡ verdictBy n f ks
-refused zero f ks z = absurd (z refl)
-refused (suc n) f ks z = refl
+refused : (n : ℕ) (f : Facts) → (n ≡ 0 → ⊥) → Verdict.Refused n ≡ verdictBy n f
+refused zero f z = absurd (z refl)
+refused (suc n) f z = refl
 
 module _ (f u : Facts) (ks : List Key) where
   pub verdict-known : {n : ℕ} → n ≡ first (knownTests f u) → (n ≡ 0 → ⊥) → Verdict.Refused n ≡ verdict f u ks
   unfolding verdict
   verdict-known {n} e z =
-      refused n f ks z ∙ ap (λ (m : ℕ). verdictBy m f ks) (e ∙ sym (first-within (knownTests f u) (keyTests f ks) (λ g. z (e ∙ g))))
+      refused n f z ∙ ap (λ (m : ℕ). verdictBy m f) (e ∙ sym (first-within (knownTests f u) (keyTests f ks) (λ g. z (e ∙ g))))
 
   pub verdict-key : first (knownTests f u) ≡ 0 → {v : Verdict} → v ≡ keyVerdict f ks → v ≡ verdict f u ks
   unfolding verdict keyVerdict
-  verdict-key e c = c ∙ ap (λ (m : ℕ). verdictBy m f ks) (sym (first-after (knownTests f u) (keyTests f ks) refl e))
+  verdict-key e c = c ∙ ap (λ (m : ℕ). verdictBy m f) (sym (first-after (knownTests f u) (keyTests f ks) refl e))

@@ -15,11 +15,11 @@ use Rattle.jose_rules.specs.Facts.{chosenKey, keyTests, verdictBy}
 
 -- the chosen key is one of the keys
 pub record KeyWithin (f : Facts) (ks : List Key) : Type 0 where
-  pub within : (i : ℕ) → some i ≡ chosenKey (f .kid) ks → i < length ks
+  pub within : (i : ℕ) → some i ≡ chosenKey (f .kid) → i < length ks
 
 -- rules 12 to 14 alone
 unfoldable pub keyVerdict : Facts → List Key → Verdict
-keyVerdict f ks = verdictBy (first (keyTests f ks)) f ks
+keyVerdict f ks = verdictBy (first (keyTests f ks)) f
 
 -- from 1 to 8; any other is 0
 unfoldable pub smallOf : ℤ → ℕ

@@ -31,11 +31,10 @@ use jose_rules::Verdict;
 use keytable::Found;
 use keytable::allows_format;
 use keytable::allows_hs256;
-use keytable::only;
 
-// The first of rules 9 to 14 that refuses, or what is taken. Rules out that `alg` chooses though the key's bit is 0, that a `kid` that no
-// key has falls back to the only key, that a `fmt` that `crit` doesn't list chooses the format, and that a `crit` in the unprotected
-// header is let through.
+// The first of rules 9 to 14 that refuses, or what is taken. Rules out that `alg` chooses though the key's bit is 0, that a missing `kid`
+// falls back to a key, that a `fmt` that `crit` doesn't list chooses the format, and that a `crit` in the unprotected header is let
+// through.
 pub fn judge(facts: Facts, unprotected: Facts, table: &[u8]) -> Verdict
     requires { ⌜ (badTable (now table) ≡ false) × KeyWithin facts (keys (now table)) ⌝ }
     ensures { λ r. ⌜ r ≡ verdict facts unprotected (keys (now (table .entry))) ⌝ }
@@ -112,7 +111,7 @@ fn judge_key(facts: Facts, table: &[u8]) -> Verdict
 {
     let kid = facts.kid;
     let fmt = facts.fmt;
-    let Found::At(index) = key_of(kid, table) else {
+    let Found::At(index) = key_of(kid) else {
         return Verdict::Refused(NO_KEY);
     };
     if allows_hs256(table, index) {
@@ -128,13 +127,12 @@ fn judge_key(facts: Facts, table: &[u8]) -> Verdict
     Verdict::Refused(ALG_NOT_ALLOWED)
 }
 
-// The key: the one that `kid` names; with no `kid`, the only one.
-fn key_of(kid: Kid, table: &[u8]) -> Found
-    requires { ⌜ badTable (now table) ≡ false ⌝ }
-    ensures { λ r. ⌜ indexOf r ≡ chosenKey kid (keys (now (table .entry))) ⌝ }
+// The key: the one that `kid` names. A missing `kid` names none.
+fn key_of(kid: Kid) -> Found
+    ensures { λ r. ⌜ indexOf r ≡ chosenKey kid ⌝ }
 {
     match kid {
-        Kid::Absent => only(table),
+        Kid::Absent => Found::Nothing,
         Kid::Wrong => Found::Nothing,
         Kid::Unknown => Found::Nothing,
         Kid::Key(index) => Found::At(index),

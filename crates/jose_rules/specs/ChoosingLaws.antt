@@ -6,12 +6,10 @@ use mathlib.Core.List.{List, [], _∷_}
 use mathlib.Core.Option.{Option, none, some}
 use Prim.Native.Nat.{ℕ}
 use native.Mathlib.Omega.{arith}
-use lib.Dec.{eqb}
 use lib.IntN.{ℤ, pos, negsuc, natAbs}
 use lib.Signed.{ltZ, _<ℤ_}
-use lib.ListN.{length}
 use Rattle.common.specs.First.{Decides, holds, fails, Agree, done, _by_, among, numbers, condition, earlier, NoneOf, first}
-use Rattle.common.specs.FirstLaws.{decides-or, decides-not, decides-iff, decides-eq, first-stands, none-stands, not-on}
+use Rattle.common.specs.FirstLaws.{decides-or, decides-not, decides-iff, first-stands, none-stands, not-on}
 use Rattle.common.specs.Options.{absent, given, bind, orElse}
 use Rattle.json_grammar_rules.specs.Value.{Value, Members, objectV, mnil, mcons, among as amongNames, repeated, names}
 use Rattle.json_grammar_rules.specs.Twice.{ObjectIn, TwiceNamed}
@@ -19,7 +17,7 @@ use Rattle.json_grammar_rules.specs.TwiceLaws.{decides-repeated}
 use Rattle.json_characters.specs.Utf8.{utf8}
 use Rattle.keytable_rules.specs.declared.Found.{Found}
 use Rattle.keytable_rules.specs.declared.Found.the-variants.{At, Nothing}
-use Rattle.keytable_rules.specs.Key.{Key, key, Distinct, Named, find, only, allowsHS256, allowsFormat}
+use Rattle.keytable_rules.specs.Key.{Key, key, Distinct, Named, find, allowsHS256, allowsFormat}
 use Rattle.keytable_rules.specs.KeyLaws.{found, not-found, find-is}
 use Rattle.common.specs.Decided.{when-false, decided, decides-false, test-false}
 use Rattle.common.specs.Same.{same}
@@ -32,7 +30,7 @@ use Rattle.jose_rules.specs.Members.{Has, Lacks, Meaning, string, string
 use Rattle.jose_rules.specs.Rules.{Terms, MissingOrWrong, Listed, CriticalBroken, Chosen, ChosenKey, Format, Lacking, choosing, Chooses}
 use Rattle.jose_rules.specs.OnlyOne.{Only, nothing, just, decides-none, decides-some, decides-absent, only-there, only-is, only-content, only-bind, only-or}
 use Rattle.jose_rules.specs.Facts.{lookup, fact, keyBy, foundBy, algFact, kidFact, textFact, critFact, fmtFact, factsOf, algMissing, algOther, kidWrong, kidThere, textWrong, critWrong, critThere, fmtWrong, fmtThere, listsBadly, indexOf, chosenKey, formatBy, lacking, missingOrWrong, criticalBroken, choosingTests, choiceBy}
-use Rattle.jose_rules.specs.FactLaws.{by-cases, wrong-cases, there-cases, given-cases, else-cases, by-names, by-algorithm, by-found}
+use Rattle.jose_rules.specs.FactLaws.{by-cases, wrong-cases, there-cases, given-cases, bind-cases, by-names, by-algorithm, by-found}
 use Rattle.jose_rules.specs.CriticalLaws.{anyOf, empty, lists-badly}
 
 -- MEMBERS BY NAME
@@ -117,14 +115,6 @@ only-named id ks d = go (find id ks) refl
     go (At i) e = just (found e) (λ j n. let f = find-is d n in cc)
     go Nothing e = nothing (not-found e)
 
-only-key : (ks : List Key) → Only (λ i. (length ks ≡ 1) × (i ≡ 0)) (indexOf (only ks))
-unfolding only
-only-key ks = go (eqb (length ks) 1) (decides-eq (length ks) 1)
-  where
-    go : (b : Bool) → Decides (length ks ≡ 1) b → Only (λ i. (length ks ≡ 1) × (i ≡ 0)) (indexOf (cond b (At 0) Nothing))
-    go true (holds e) = just (e, refl) (λ i w. w .1)
-    go false (fails e) = nothing (λ i w. e (w .0))
-
 -- the first two of three together
 first-two : {P Q R : Type 0} → (P ⊎ Q) ⊎ R → P ⊎ Q ⊎ R
 first-two (inl (inl p)) = inl p
@@ -159,14 +149,20 @@ some-or (some v) = go (integer v)
     go none = refl
     go (some z) = refl
 
-index-of : (ks : List Key) (f : Found) → chosenKey (keyBy f) ks ≡ indexOf f
-index-of ks (At i) = refl
-index-of ks Nothing = refl
+index-of : (f : Found) → chosenKey (keyBy f) ≡ indexOf f
+index-of (At i) = refl
+index-of Nothing = refl
+
+-- the chosen key is the one that `kid` names, where it says something
+chosen-named : (ks : List Key) (o : Option Value) → chosenKey (kidFact ks o) ≡ bind (bind o string) (λ s. indexOf (find (utf8 s) ks))
+unfolding kidFact
+chosen-named ks o =
+    by-cases string chosenKey {a′ = none} {w′ = none} refl refl (λ s. index-of (find (utf8 s) ks)) o ∙ sym (bind-cases string (λ s. indexOf (find (utf8 s) ks)) o)
 
 module _ (ms : Members) (unique : repeated (names ms) ≡ false) where
   -- WHAT FACTS SAY of a member
 
-  only-said : {A : Type 0} (k : Meaning A) (n : List ℕ) → Only (Says k n ms) (bind (lookup n ms) k)
+  pub only-said : {A : Type 0} (k : Meaning A) (n : List ℕ) → Only (Says k n ms) (bind (lookup n ms) k)
   only-said k n = only-bind (looked n ms unique) (λ v. only-content (k v))
 
   decides-lacks : (n : List ℕ) → Decides (Lacks n ms) (absent (lookup n ms))
@@ -271,19 +267,11 @@ module _ (ms : Members) (unique : repeated (names ms) ≡ false) where
       go v h (some z) e = k z (inl (v, h, e))
 
   module _ (ks : List Key) (distinct : Distinct ks) where
-    only-chosen : Only (Chosen ms ks) (chosenKey (kidFact ks (lookup kid ms)) ks)
-    unfolding kidFact
-    only-chosen =
-        rw (
-          by-cases string (λ a. chosenKey a ks) {f′ = λ s. indexOf (find (utf8 s) ks)} refl refl (λ s. index-of ks (find (utf8 s) ks)) (lookup kid ms),
-          ← else-cases string (indexOf (only ks)) (λ s. indexOf (find (utf8 s) ks)) (lookup kid ms),
-        )
-        (only-or (looked kid ms unique) (λ i w. (w .1 .0, w .1 .1))
-        (only-bind (only-said string kid) (λ s. only-named (utf8 s) ks distinct))
-        (only-key ks))
+    only-chosen : Only (Chosen ms ks) (chosenKey (kidFact ks (lookup kid ms)))
+    only-chosen = rw (chosen-named ks (lookup kid ms)) (only-bind (only-said string kid) (λ s. only-named (utf8 s) ks distinct))
 
     -- of the chosen key
-    decides-chosen : {P : Key → Type 0} {p : Key → Bool} → ((k : Key) → Decides (P k) (p k)) → Decides (ChosenKey ms ks P) (given (λ i. p (key ks i)) (chosenKey (kidFact ks (lookup kid ms)) ks))
+    decides-chosen : {P : Key → Type 0} {p : Key → Bool} → ((k : Key) → Decides (P k) (p k)) → Decides (ChosenKey ms ks P) (given (λ i. p (key ks i)) (chosenKey (kidFact ks (lookup kid ms))))
     decides-chosen d = decides-some only-chosen (λ i. d (key ks i))
 
   module _ (us : Members) (q : Terms) (distinct : Distinct (q .keys)) where
@@ -309,11 +297,11 @@ module _ (ms : Members) (unique : repeated (names ms) ≡ false) where
     choosing-none = none-stands choosing-agree refl
 
     -- .. and then what is chosen ..
-    pub chooses : NoneOf (choosing ms us q) → (t c : Part) → Chooses ms (q .keys) (choiceBy (factsOf ms (q .keys)) (q .keys) t c)
+    pub chooses : NoneOf (choosing ms us q) → (t c : Part) → Chooses ms (q .keys) (choiceBy (factsOf ms (q .keys)) t c)
     unfolding choiceBy factsOf
     chooses h t c =
         let no = not-on (choosing ms us q) h in
-        let i : Chosen ms (q .keys) (orElse (chosenKey (kidFact (q .keys) (lookup kid ms)) (q .keys)) 0) = only-there 0 (only-chosen (q .keys) distinct) (no 12) in
+        let i : Chosen ms (q .keys) (orElse (chosenKey (kidFact (q .keys) (lookup kid ms))) 0) = only-there 0 (only-chosen (q .keys) distinct) (no 12) in
         let f : Format ms (orElse (formatBy (fmtFact (lookup fmt ms))) (pos 0)) = only-there (pos 0) only-format (some-format (λ w. no 9 (inr (inr (inr (inr (inr (inr w)))))))) in
         record {
           key-is = i;
@@ -323,14 +311,14 @@ module _ (ms : Members) (unique : repeated (names ms) ≡ false) where
 
   -- .. is the only choice
   module _ (ks : List Key) (distinct : Distinct ks) (t c : Part) where
-    pub key-one : {i : ℕ} → Chosen ms ks i → i ≡ choiceBy (factsOf ms ks) ks t c .«key_index»
+    pub key-one : {i : ℕ} → Chosen ms ks i → i ≡ choiceBy (factsOf ms ks) t c .«key_index»
     unfolding choiceBy factsOf
     key-one h = only-is 0 (only-chosen ks distinct) h
 
-    pub format-one : {f : ℕ} → Format ms (pos f) → f ≡ choiceBy (factsOf ms ks) ks t c .format
+    pub format-one : {f : ℕ} → Format ms (pos f) → f ≡ choiceBy (factsOf ms ks) t c .format
     unfolding choiceBy factsOf
     format-one h = ap natAbs (only-is (pos 0) only-format h)
 
-    pub kid-one : {b : Bool} → Decides ((v : Value) × Has kid v ms) b → b ≡ choiceBy (factsOf ms ks) ks t c .«kid_present»
+    pub kid-one : {b : Bool} → Decides ((v : Value) × Has kid v ms) b → b ≡ choiceBy (factsOf ms ks) t c .«kid_present»
     unfolding choiceBy factsOf
     kid-one h = decided h (decides-kid-there ks)

@@ -15,8 +15,8 @@ use Rattle.json_rules.specs.Rules.{longest}
 use Rattle.json_characters.specs.Utf8.{utf8}
 use Rattle.keytable_rules.specs.declared.Found.{Found}
 use Rattle.keytable_rules.specs.declared.Found.the-variants.{At, Nothing}
-use Rattle.keytable_rules.specs.Key.{Key, find, only}
-use Rattle.keytable_rules.specs.KeyLaws.{found, only-found}
+use Rattle.keytable_rules.specs.Key.{Key, find}
+use Rattle.keytable_rules.specs.KeyLaws.{found}
 use Rattle.keytable_rules.specs.Table.{badTable, keys}
 use Rattle.jose_rules.specs.declared.Kid.{Kid}
 use Rattle.jose_rules.specs.declared.Choice.{Choice}
@@ -24,7 +24,7 @@ use Rattle.jose_rules.specs.declared.Decision.the-variants.{Refused, Cho
 use Rattle.jose_rules.specs.Names.{kid}
 use Rattle.jose_rules.specs.Members.{string}
 use Rattle.jose_rules.specs.Rules.{Terms, termsOf}
-use Rattle.jose_rules.specs.Facts.{lookup, pick, keyBy, kidFact, factsOf, indexOf, chosenKey, choiceBy}
+use Rattle.jose_rules.specs.Facts.{lookup, pick, keyBy, kidFact, factsOf, chosenKey, choiceBy}
 use Rattle.jose_rules.specs.HeaderTests.{headerFacts, joseTests, headerChoice}
 use Rattle.jose_rules.specs.Decision.{decisionBy, openingTests, decidingTests, decisionWith, decision}
 
@@ -40,36 +40,32 @@ chosen-is (suc k) c e = absurd (let z : _≡_ {A = ℕ} 0 1 = cc in omega arith)
 
 -- THE KEY
 
-index-at : (f : Found) {i : ℕ} → some i ≡ indexOf f → f ≡ At i
-index-at (At j) e = cc
-index-at Nothing e = absurd (let z : _≡_ {A = ℕ} 0 1 = cc in omega arith)
-
 -- the chosen key is one of the keys
-pub chosen-within : (ms : Members) (ks : List Key) {i : ℕ} → some i ≡ chosenKey (factsOf ms ks .kid) ks → i < length ks
+pub chosen-within : (ms : Members) (ks : List Key) {i : ℕ} → some i ≡ chosenKey (factsOf ms ks .kid) → i < length ks
 unfolding factsOf kidFact
 chosen-within ms ks {i} e = go (lookup kid ms) e
   where
     never : {B : Type 0} → some i ≡ none → B
     never e = absurd (let z : _≡_ {A = ℕ} 0 1 = cc in omega arith)
 
-    by-id : (f : Found) → ((j : ℕ) → f ≡ At j → j < length ks) → some i ≡ chosenKey (keyBy f) ks → i < length ks
+    by-id : (f : Found) → ((j : ℕ) → f ≡ At j → j < length ks) → some i ≡ chosenKey (keyBy f) → i < length ks
     by-id (At j) h e = h i (let x : j ≡ i = cc in rw x)
     by-id Nothing h e = never e
 
-    said : (o : Option (List ℕ)) → some i ≡ chosenKey (pick Kid.Absent Kid.Wrong (λ s. keyBy (find (utf8 s) ks)) o) ks → i < length ks
+    said : (o : Option (List ℕ)) → some i ≡ chosenKey (pick Kid.Absent Kid.Wrong (λ s. keyBy (find (utf8 s) ks)) o) → i < length ks
     said none e = never e
     said (some s) e = by-id (find (utf8 s) ks) (λ j f. found f .within) e
 
-    go : (o : Option Value) → some i ≡ chosenKey (kidFact ks o) ks → i < length ks
-    go none e = let o = only-found ks (index-at (only ks) e) in omega arith
+    go : (o : Option Value) → some i ≡ chosenKey (kidFact ks o) → i < length ks
+    go none e = never e
     go (some v) e = said (string v) e
 
 module _ (h : List ℕ) (q : Terms) where
   pub choice-within : first (joseTests h q) ≡ 0 → headerChoice h (q .keys) .«key_index» < length (q .keys)
   unfolding headerChoice choiceBy
-  choice-within e = go (chosenKey (headerFacts h (q .keys) .kid) (q .keys)) refl (passed (joseTests h q) (all-pass (joseTests h q) refl e) 12)
+  choice-within e = go (chosenKey (headerFacts h (q .keys) .kid)) refl (passed (joseTests h q) (all-pass (joseTests h q) refl e) 12)
     where
-      go : (o : Option ℕ) → chosenKey (headerFacts h (q .keys) .kid) (q .keys) ≡ o → absent o ≡ false → orElse (chosenKey (headerFacts h (q .keys) .kid) (q .keys)) 0 < length (q .keys)
+      go : (o : Option ℕ) → chosenKey (headerFacts h (q .keys) .kid) ≡ o → absent o ≡ false → orElse (chosenKey (headerFacts h (q .keys) .kid)) 0 < length (q .keys)
       go none e f = absurd (true≢false f)
       go (some i) e f = rw e (chosen-within _ (q .keys) (sym e))
 

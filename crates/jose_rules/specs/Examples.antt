@@ -1,6 +1,6 @@
 -- The definitions, run on readings: each answer from 9 to 14, and what is chosen where none is given.
 use mathlib.Core.Path.{_≡_, refl}
-use mathlib.Core.Bool.{Bool, true, false}
+use mathlib.Core.Bool.{Bool, true}
 use mathlib.Core.List.{List, [], _∷_}
 use Prim.Native.Nat.{ℕ}
 use Prim.Native.String.{String}
@@ -10,7 +10,7 @@ use Rattle.json_grammar_rules.specs.Value.{Value, Values, Members, stringV, num
 use Rattle.json_characters.specs.Utf8.{utf8, octets}
 use Rattle.decimal_rules.specs.Integer.{integerOf, allDigits, after}
 use Rattle.common.specs.Same.{same}
-use Rattle.keytable_rules.specs.Key.{Key, find, only, allowsHS256, allowsFormat}
+use Rattle.keytable_rules.specs.Key.{Key, find, allowsHS256, allowsFormat}
 use Rattle.common.specs.Ascii.{ascii}
 use Rattle.jose_rules.specs.Names.{alg, kid, typ, cty, crit, fmt, HS256}
 use Rattle.jose_rules.specs.Members.{stringsIn}
@@ -49,13 +49,13 @@ abbrev pub Answers : Members → List Key → ℕ → Type 0
 Answers ms ks n = first (choosingTests (factsOf ms ks) noFacts ks) ≡ n
 
 abbrev pub Gives : Members → List Key → ℕ → Bool → ℕ → Type 0
-Gives ms ks i kid f = Answers ms ks 0 × (choiceBy (factsOf ms ks) ks nowhere nowhere ≡ record { «key_index» = i; «kid_present» = kid; format = f; typ = nowhere; cty = nowhere })
+Gives ms ks i kid f = Answers ms ks 0 × (choiceBy (factsOf ms ks) nowhere nowhere ≡ record { «key_index» = i; «kid_present» = kid; format = f; typ = nowhere; cty = nowhere })
 
 pub examples :
-    Gives ("alg" ∶ text "HS256" then mnil) (hs1 ∷ []) 0 false 1
+    Gives ("alg" ∶ text "HS256" then "kid" ∶ text "cellar 1" then mnil) (hs1 ∷ []) 0 true 1
     × Gives ("kid" ∶ text "cellar 2" then "crit" ∶ array ("fmt" ∷ []) then "fmt" ∶ number "8" then "alg" ∶ text "HS256" then mnil) (hs1 ∷ hs28 ∷ []) 1 true 8
     -- `jku` chooses nothing
-    × Gives ("jku" ∶ text "cellar 2" then "alg" ∶ text "HS256" then mnil) (hs1 ∷ []) 0 false 1
+    × Gives ("jku" ∶ text "cellar 2" then "alg" ∶ text "HS256" then "kid" ∶ text "cellar 1" then mnil) (hs1 ∷ hs28 ∷ []) 0 true 1
     -- `alg` is missing, or a known member is of the wrong kind
     × Answers mnil (hs1 ∷ []) 9
     × Answers ("alg" ∶ trueV then mnil) (hs1 ∷ []) 9
@@ -73,22 +73,28 @@ pub examples :
     × Answers ("alg" ∶ text "HS256" then "crit" ∶ array ("jku" ∷ []) then "jku" ∶ trueV then mnil) (hs1 ∷ []) 10
     -- alg isn't `HS256`
     × Answers ("alg" ∶ text "HS512" then mnil) (hs1 ∷ []) 11
-    -- no key found
+    -- no key found: `kid` is missing, of a table with one key as of any other, or no key has this id
+    × Answers ("alg" ∶ text "HS256" then mnil) [] 12
+    × Answers ("alg" ∶ text "HS256" then mnil) (hs1 ∷ []) 12
     × Answers ("alg" ∶ text "HS256" then mnil) (hs1 ∷ hs28 ∷ []) 12
+    × Answers ("alg" ∶ text "HS256" then "jku" ∶ text "cellar 1" then mnil) (hs1 ∷ []) 12
+    × Answers ("alg" ∶ text "HS256" then "kid" ∶ text "" then mnil) (hs1 ∷ []) 12
     × Answers ("alg" ∶ text "HS256" then "kid" ∶ text "cellar" then mnil) (hs1 ∷ []) 12
     -- the key's HS256 bit is 0
-    × Answers ("alg" ∶ text "HS256" then mnil) (none1 ∷ []) 13
     × Answers ("alg" ∶ text "HS256" then "kid" ∶ text "cellar 3" then mnil) (hs1 ∷ none1 ∷ []) 13
     -- the key's formats lack this format
-    × Answers ("alg" ∶ text "HS256" then mnil) (hs28 ∷ []) 14
-    × Answers ("alg" ∶ text "HS256" then "crit" ∶ array ("fmt" ∷ []) then "fmt" ∶ number "-0" then mnil) (hs1 ∷ []) 14
-    × Answers ("alg" ∶ text "HS256" then "crit" ∶ array ("fmt" ∷ []) then "fmt" ∶ number "9" then mnil) (hs1 ∷ []) 14
-unfolding ascii alg kid typ cty crit fmt HS256 utf8 octets within isDigit integerOf allDigits after same find only allowsHS256 allowsFormat
+    × Answers ("alg" ∶ text "HS256" then "kid" ∶ text "cellar 2" then mnil) (hs28 ∷ []) 14
+    × Answers ("alg" ∶ text "HS256" then "kid" ∶ text "cellar 1" then "crit" ∶ array ("fmt" ∷ []) then "fmt" ∶ number "-0" then mnil) (hs1 ∷ []) 14
+    × Answers ("alg" ∶ text "HS256" then "kid" ∶ text "cellar 1" then "crit" ∶ array ("fmt" ∷ []) then "fmt" ∶ number "9" then mnil) (hs1 ∷ []) 14
+unfolding ascii alg kid typ cty crit fmt HS256 utf8 octets within isDigit integerOf allDigits after same find allowsHS256 allowsFormat
     stringsIn lookup namesFrom algFact kidFact textFact critFact fmtFact factsOf missingOrWrong criticalBroken lacking choiceBy
 examples = (
   (refl, refl),
   (refl, refl),
   (refl, refl),
+  refl,
+  refl,
+  refl,
   refl,
   refl,
   refl,

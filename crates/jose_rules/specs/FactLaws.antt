@@ -55,11 +55,11 @@ module _ {A : Type 0} (k : Meaning A) where
       go none = refl
       go (some x) = refl
 
-  pub else-cases : {B : Type 0} (d : Option B) (f : A → Option B) (o : Option Value) → cond (absent o) d (bind (bind o k) f) ≡ fact d none f k o
-  else-cases d f none = refl
-  else-cases {B} d f (some v) = go (k v)
+  pub bind-cases : {B : Type 0} (f : A → Option B) (o : Option Value) → bind (bind o k) f ≡ fact none none f k o
+  bind-cases f none = refl
+  bind-cases {B} f (some v) = go (k v)
     where
-      go : (o : Option A) → bind o f ≡ pick d none f o
+      go : (o : Option A) → bind o f ≡ pick none none f o
       go none = refl
       go (some x) = refl
 

@@ -13,7 +13,7 @@ use Rattle.json_grammar_rules.specs.Value.{Value, Members, mnil, mcons}
 use Rattle.json_characters.specs.Utf8.{utf8}
 use Rattle.keytable_rules.specs.declared.Found.{Found}
 use Rattle.keytable_rules.specs.declared.Found.the-variants.{At, Nothing}
-use Rattle.keytable_rules.specs.Key.{Key, key, find, only, allowsHS256, allowsFormat}
+use Rattle.keytable_rules.specs.Key.{Key, key, find, allowsHS256, allowsFormat}
 use Rattle.jose_rules.specs.declared.Alg.{Alg}
 use Rattle.jose_rules.specs.declared.Kid.{Kid}
 use Rattle.jose_rules.specs.declared.Text.{Text}
@@ -205,11 +205,11 @@ abbrev pub indexOf : Found → Option ℕ
 indexOf (At i) = some i
 indexOf Nothing = none
 
-abbrev pub chosenKey : Kid → List Key → Option ℕ
-chosenKey Kid.Absent ks = indexOf (only ks)
-chosenKey Kid.Wrong ks = none
-chosenKey Kid.Unknown ks = none
-chosenKey (Kid.Key i) ks = some i
+abbrev pub chosenKey : Kid → Option ℕ
+chosenKey Kid.Absent = none
+chosenKey Kid.Wrong = none
+chosenKey Kid.Unknown = none
+chosenKey (Kid.Key i) = some i
 
 abbrev pub formatBy : Fmt → Option ℤ
 formatBy Fmt.Absent = some (pos 1)
@@ -232,11 +232,11 @@ knownTests f u = 9 when missingOrWrong f ∷ 10 when criticalBroken f u ∷ 11 w
 
 -- there is a chosen key, and p of it
 abbrev pub ofChosen : Facts → List Key → (Key → Bool) → Bool
-ofChosen f ks p = given (λ i. p (key ks i)) (chosenKey (f .kid) ks)
+ofChosen f ks p = given (λ i. p (key ks i)) (chosenKey (f .kid))
 
 abbrev pub keyTests : Facts → List Key → List Test
 keyTests f ks =
-    12 when absent (chosenKey (f .kid) ks)
+    12 when absent (chosenKey (f .kid))
     ∷ 13 when ofChosen f ks (λ k. not (allowsHS256 k))
     ∷ 14 when ofChosen f ks (λ k. given (lacking k) (formatBy (f .fmt)))
     ∷ []
@@ -245,18 +245,18 @@ abbrev pub choosingTests : Facts → Facts → List Key → List Test
 choosingTests f u ks = knownTests f u ++ keyTests f ks
 
 -- WHAT IS CHOSEN: the key's index and the format, used where no test refuses; with the raw texts of `typ` and `cty`
-abbrev pub indexBy : Facts → List Key → ℕ
-indexBy f ks = orElse (chosenKey (f .kid) ks) 0
+abbrev pub indexBy : Facts → ℕ
+indexBy f = orElse (chosenKey (f .kid)) 0
 
 abbrev pub numberBy : Facts → ℕ
 numberBy f = natAbs (orElse (formatBy (f .fmt)) (pos 0))
 
-unfoldable pub choiceBy : Facts → List Key → Part → Part → Choice
-choiceBy f ks t c = record { «key_index» = indexBy f ks; «kid_present» = kidThere (f .kid); format = numberBy f; typ = t; cty = c }
+unfoldable pub choiceBy : Facts → Part → Part → Choice
+choiceBy f t c = record { «key_index» = indexBy f; «kid_present» = kidThere (f .kid); format = numberBy f; typ = t; cty = c }
 
 -- what the facts decide, by the number of the first rule that refuses, or 0
-abbrev pub verdictBy : ℕ → Facts → List Key → Verdict
-verdictBy n f ks = settle n (Verdict.Takes (indexBy f ks) (kidThere (f .kid)) (numberBy f)) (λ m. Verdict.Refused m)
+abbrev pub verdictBy : ℕ → Facts → Verdict
+verdictBy n f = settle n (Verdict.Takes (indexBy f) (kidThere (f .kid)) (numberBy f)) (λ m. Verdict.Refused m)
 
 unfoldable pub verdict : Facts → Facts → List Key → Verdict
-verdict f u ks = verdictBy (first (choosingTests f u ks)) f ks
+verdict f u ks = verdictBy (first (choosingTests f u ks)) f

@@ -9,10 +9,12 @@ use Rattle.json_grammar_rules.specs.Value.{Members, mnil, objectV, LMember, LMe
 use Rattle.json_grammar_rules.specs.Places.{MemberPlaces, placed}
 use Rattle.json_grammar_rules.specs.Grammar.{Derivation, bytes, readingOf, depthOf, membersOf}
 use Rattle.json_rules.specs.Rules.{deepest, grammarRules}
+use Rattle.keytable_rules.specs.Key.{Key}
 use Rattle.jose_rules.specs.declared.Part.{Part}
 use Rattle.jose_rules.specs.declared.Choice.{Choice}
-use Rattle.jose_rules.specs.Names.{typ, cty}
-use Rattle.jose_rules.specs.Rules.{Terms, choosing, Chooses}
+use Rattle.jose_rules.specs.Names.{kid, typ, cty}
+use Rattle.jose_rules.specs.Members.{Lacks}
+use Rattle.jose_rules.specs.Rules.{Terms, Chosen, choosing, Chooses}
 
 -- THE RULES
 
@@ -44,6 +46,14 @@ ValueAt h n (lcons m ms) p = ((nameOf m ≡ n) × (p ≡ valuePart (placed h m))
 -- "where the text between the quotation marks begins and how long it is, as spelled; two zeros for a missing one"
 abbrev pub RawText : List ℕ → List ℕ → LMembers → Part → Type 0
 RawText h n ms p = ValueAt h n ms p ⊎ (((q : Part) → ValueAt h n ms q → ⊥) × (p ≡ nowhere))
+
+-- WHICH KEY A HEADER NAMES: the one whose id is the UTF-8 of its `kid`, ..
+abbrev pub NamesKey : List ℕ → List Key → ℕ → Type 0
+NamesKey h ks i = (t : Derivation) × (bytes t ≡ h) × Chosen (readingOf t) ks i
+
+-- .. and none, of whichever keys, where it has no `kid`
+abbrev pub NamesNoKey : List ℕ → Type 0
+NamesNoKey h = (t : Derivation) × (bytes t ≡ h) × Lacks kid (readingOf t)
 
 -- h is a header in order, and decides c
 pub record HeaderChooses (h : List ℕ) (q : Terms) (c : Choice) : Type 0 where

@@ -1,8 +1,8 @@
 -- What a header decides, computed from its bytes.
 use mathlib.Core.Path.{_≡_, refl}
-use mathlib.Core.Bool.{true, false}
-use mathlib.Core.List.{List, [], _∷_}
-use Prim.Native.Nat.{ℕ}
+use mathlib.Core.Bool.{true}
+use mathlib.Core.List.{List, [], _∷_, _++_}
+use Prim.Native.Nat.{ℕ, zero, suc}
 use lib.ListN.{replicate}
 use Rattle.common.specs.Ascii.{ascii}
 use Rattle.common.specs.First.{first}
@@ -14,19 +14,20 @@ use Rattle.json_grammar_rules.specs.Places.{kindOf, pos, margin, placed}
 use Rattle.json_grammar_rules.specs.Reader.{skip, isUnescaped1, charLead, escapeLeadOf, readChar, readChars, valueLead, pastNumber, readValue, read}
 use Rattle.json_characters.specs.Utf8.{utf8, octets}
 use Rattle.decimal_rules.specs.Integer.{integerOf, allDigits, after}
-use Rattle.keytable_rules.specs.Key.{Key, find, only, allowsHS256, allowsFormat}
+use Rattle.keytable_rules.specs.Key.{Key, find, allowsHS256, allowsFormat}
 use Rattle.jose_rules.specs.declared.Choice.{Choice}
 use Rattle.jose_rules.specs.Names.{alg, kid, typ, cty, crit, fmt, HS256}
 use Rattle.jose_rules.specs.Members.{stringsIn}
-use Rattle.jose_rules.specs.Header.{nowhere}
+use Rattle.jose_rules.specs.Header.{nowhere, NamesNoKey}
 use Rattle.jose_rules.specs.Facts.{lookup, namesFrom, algFact, kidFact, textFact, critFact, fmtFact, factsOf, lacking, missingOrWrong, criticalBroken, choiceBy}
 use Rattle.jose_rules.specs.Examples.{hs1}
 use Rattle.jose_rules.specs.HeaderTests.{joseTests, rawText, headerChoice}
+use Rattle.jose_rules.specs.NamingLaws.{nameless-read}
 
 -- the raw text of `typ` begins at byte 8 and has 3 bytes; `cty` is absent
-pub typ-place : headerChoice (ascii "{\"typ\":\"JWT\",\"alg\":\"HS256\"}") (hs1 ∷ [])
-    ≡ record { «key_index» = 0; «kid_present» = false; format = 1; typ = record { start = 8; length = 3 }; cty = record { start = 0; length = 0 } }
-unfolding headerChoice rawText choiceBy factsOf kidFact fmtFact lookup only same ascii alg kid typ cty crit fmt read readValue readChars readChar charLead escapeLeadOf
+pub typ-place : headerChoice (ascii "{\"typ\":\"JWT\",\"alg\":\"HS256\",\"kid\":\"cellar 1\"}") (hs1 ∷ [])
+    ≡ record { «key_index» = 0; «kid_present» = true; format = 1; typ = record { start = 8; length = 3 }; cty = record { start = 0; length = 0 } }
+unfolding headerChoice rawText choiceBy factsOf kidFact fmtFact lookup find utf8 octets same ascii alg kid typ cty crit fmt read readValue readChars readChar charLead escapeLeadOf
     valueLead skip isUnescaped1 plain plainMembers within isWs isHex allHex hex4 placed pos margin kindOf
 typ-place = refl
 
@@ -49,3 +50,41 @@ unfolding missingOrWrong criticalBroken lacking headerChoice rawText choiceBy fa
     find allowsHS256 allowsFormat ascii alg kid typ cty crit fmt HS256 utf8 octets same among repeated names twice plain plainMembers
     read readValue readChars readChar charLead valueLead skip isUnescaped1 pastNumber within isDigit isDigit19 isE isWs
 second-key = (refl, refl)
+
+-- ONE KEY, whose id is one byte; it allows HS256 and formats 1 and 3
+abbrev pub single : ℕ → List Key
+single x = record { id = x ∷ []; secret = replicate 32 65; algorithms = 1; formats = 5 } ∷ []
+
+-- the header `{"alg":"HS256","kid":"A"}`, and then n spaces
+abbrev pub naming : ℕ → List ℕ
+naming n = ascii "{\"alg\":\"HS256\",\"kid\":\"A\"}" ++ replicate n 0x20
+
+-- what it decides where that is the key's id: this key, named, and format 1; no `typ`, no `cty`
+abbrev pub first-choice : Choice
+first-choice = record { «key_index» = 0; «kid_present» = true; format = 1; typ = nowhere; cty = nowhere }
+
+-- nothing but white space
+blank : (n : ℕ) → skip isWs (replicate n 0x20) ≡ []
+unfolding skip isWs
+blank zero = refl
+blank (suc n) = blank n
+
+pub first-key : (n : ℕ) → (first (joseTests (naming n) (record { keys = single 65 })) ≡ 0) × (headerChoice (naming n) (single 65) ≡ first-choice)
+unfolding missingOrWrong criticalBroken lacking headerChoice rawText choiceBy factsOf algFact kidFact textFact critFact fmtFact lookup
+    find allowsHS256 allowsFormat ascii alg kid typ cty crit fmt HS256 utf8 octets same among repeated names twice plain plainMembers
+    read readValue readChars readChar charLead valueLead skip isUnescaped1 within isWs
+first-key n = (rw (blank n), rw (blank n))
+
+-- the header `{"alg":"HS256"}`, which names no key
+abbrev pub nameless : List ℕ
+nameless = ascii "{\"alg\":\"HS256\"}"
+
+-- 12: where it names none, and where that key has another id, `B`
+pub no-key : (first (joseTests nameless (record { keys = single 65 })) ≡ 12) × (first (joseTests (naming 0) (record { keys = single 66 })) ≡ 12)
+unfolding missingOrWrong criticalBroken lacking factsOf algFact kidFact textFact critFact fmtFact lookup find ascii alg kid typ cty crit fmt HS256 utf8 octets
+    same among repeated names twice plain plainMembers read readValue readChars readChar charLead valueLead skip isUnescaped1 within isWs
+no-key = (refl, refl)
+
+pub names-no-key : NamesNoKey nameless
+unfolding ascii kid same among repeated names twice plain plainMembers read readValue readChars readChar charLead valueLead skip isUnescaped1 within isWs
+names-no-key = nameless-read nameless refl refl

@@ -96,7 +96,7 @@ unfolding factsOf lookup algFact kidFact textFact critFact fmtFact
 no-members ks = refl
 
 -- a choice by its parts
-choice-is : (ms : Members) (ks : List Key) (c : Choice) → let d = choiceBy (factsOf ms ks) ks (c .typ) (c .cty) in
+choice-is : (ms : Members) (ks : List Key) (c : Choice) → let d = choiceBy (factsOf ms ks) (c .typ) (c .cty) in
     c .«key_index» ≡ d .«key_index» → c .«kid_present» ≡ d .«kid_present» → c .format ≡ d .format → c ≡ d
 unfolding choiceBy
 choice-is ms ks c i k f = rw (← i, ← k, ← f)

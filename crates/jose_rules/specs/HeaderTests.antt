@@ -34,4 +34,4 @@ rawText h n lnil = nowhere
 rawText h n (lcons m ms) = cond (same (nameOf m) n) (valuePart (placed h m)) (rawText h n ms)
 
 unfoldable pub headerChoice : List ℕ → List Key → Choice
-headerChoice h ks = choiceBy (headerFacts h ks) ks (rawText h typ (located h)) (rawText h cty (located h))
+headerChoice h ks = choiceBy (headerFacts h ks) (rawText h typ (located h)) (rawText h cty (located h))

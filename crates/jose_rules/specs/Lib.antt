@@ -15,6 +15,7 @@ pub mod CriticalLaws
 pub mod ChoosingLaws
 pub mod UnknownMembers
 pub mod HeaderLaws
+pub mod NamingLaws
 pub mod DecisionLaws
 pub mod Promises
 pub mod Examples

@@ -7,7 +7,6 @@ use mathlib.Core.List.{List, [], _∷_, _++_}
 use Prim.Native.Nat.{ℕ}
 use lib.IntN.{ℤ, pos, natAbs}
 use lib.Signed.{_<ℤ_}
-use lib.ListN.{length}
 use Rattle.common.specs.First.{Rule, _on_, Decides}
 use Rattle.json_grammar_rules.specs.Value.{Value, Members}
 use Rattle.json_grammar_rules.specs.Twice.{Repeated}
@@ -55,13 +54,9 @@ CriticalBroken ms us =
     -- RFC 7515 section 4.1.11: it "MUST occur only within the JWS Protected Header"
     ⊎ ((v : Value) × Has crit v us)
 
--- key i is the chosen one
+-- key i is the chosen one: "The key is the one whose id is the UTF-8 of `kid`. Without `kid` there is none"
 abbrev pub Chosen : Members → List Key → ℕ → Type 0
-Chosen ms ks i =
-    -- "The key is the one whose id is the UTF-8 of `kid`.
-    ((s : List ℕ) × Says string kid ms s × Named (utf8 s) ks i)
-    -- A token without `kid` gets the key of a table that has just one, and of another table none."
-    ⊎ (Lacks kid ms × ((length ks ≡ 1) × (i ≡ 0)))
+Chosen ms ks i = (s : List ℕ) × Says string kid ms s × Named (utf8 s) ks i
 
 -- the chosen key is such that P
 abbrev pub ChosenKey : Members → List Key → (Key → Type 0) → Type 0
@@ -87,7 +82,7 @@ knownRules ms us =
 -- .. and on the key
 abbrev pub keyRules : Members → Terms → List Rule
 keyRules ms q =
-    -- "no key is found"
+    -- "`kid` is missing, or no key has this id"
     12 on ((i : ℕ) → Chosen ms (q .keys) i → ⊥)
     -- "the key doesn't allow HS256"
     ∷ 13 on ChosenKey ms (q .keys) (λ k. allowsHS256 k ≡ false)

@@ -8,6 +8,7 @@ pub mod Outcomes
 pub mod Tests
 -- The promises, the limits on both sides, and tokens that are accepted.
 pub mod Promises
+pub mod Naming
 pub mod Sides
 pub mod Starred
 pub mod Inhabited

@@ -4,7 +4,7 @@ ghost use mathlib.Core.Path.{_≡_};
 ghost use mathlib.Core.Bool.{false};
 ghost use Prim.Native.Nat.{_+_, _≤_, _<_};
 ghost use lib.ListN.{length, getD};
-ghost use Rattle.keytable_rules.specs.Key.{key, allowsHS256, allowsFormat, find, only};
+ghost use Rattle.keytable_rules.specs.Key.{key, allowsHS256, allowsFormat, find};
 ghost use Rattle.keytable_rules.specs.Table.{entrySize, entryPlace, badTable, keys};
 use common::number2_at;
 use keytable_areas::area;
@@ -75,16 +75,4 @@ pub fn find(table: &[u8], wanted: &[u8]) -> Found
         i += 1;
     }
     Found::Nothing
-}
-
-// The index of the only key. Rules out the first of two, and an index past it.
-pub fn only(table: &[u8]) -> Found
-    requires { ⌜ badTable (now table) ≡ false ⌝ }
-    ensures { λ r. ⌜ r ≡ only (keys (now (table .entry))) ⌝ }
-{
-    if count(table) == 1 {
-        Found::At(0)
-    } else {
-        Found::Nothing
-    }
 }

@@ -7,7 +7,7 @@ use native.Mathlib.Omega.{arith}
 use lib.ListN.{length, replicate, length-replicate}
 use Rattle.keytable_rules.specs.declared.Found.the-variants.{At, Nothing}
 use Rattle.common.specs.Same.{same}
-use Rattle.keytable_rules.specs.Key.{Key, find, only, allowsHS256, allowsFormat}
+use Rattle.keytable_rules.specs.Key.{Key, find, allowsHS256, allowsFormat}
 use Rattle.keytable_rules.specs.Table.{Wellformed, badTable, keys, below, listed}
 
 -- the first eight bytes, for numbers below 256
@@ -95,7 +95,6 @@ pub record Examples : Type 0 where
   pub prefix : badTable (two 32 2 34 3) ≡ false
   pub second : find (65 ∷ 66 ∷ 67 ∷ []) (keys (two 32 2 34 3)) ≡ At 1
   pub neither : find (65 ∷ []) (keys (two 32 2 34 3)) ≡ Nothing
-  pub not-only : only (keys (two 32 2 34 3)) ≡ Nothing
   -- HS256 by bit 0 of the algorithms; formats 1 and 3 by bits 0 and 2 of the formats, and not 2 or 4; format 8 by bit 7
   pub hs256 : allowsHS256 (allowing 1 0) ≡ true
   pub no-hs256 : allowsHS256 (allowing 0 1) ≡ false
@@ -111,7 +110,7 @@ pub record Examples : Type 0 where
   pub bytes-8193 : Wellformed (blank 8185) → ⊥
 
 pub examples : Examples
-unfolding badTable keys below listed same find only allowsHS256 allowsFormat entriesFrom upFrom
+unfolding badTable keys below listed same find allowsHS256 allowsFormat entriesFrom upFrom
 examples = record {
   empty = refl;
   no-keys = refl;
@@ -139,7 +138,6 @@ examples = record {
   prefix = refl;
   second = refl;
   neither = refl;
-  not-only = refl;
   hs256 = refl;
   no-hs256 = refl;
   format-1 = refl;

@@ -56,7 +56,3 @@ oneOn Nothing = Nothing
 unfoldable pub find : List ℕ → List Key → Found
 find id [] = Nothing
 find id (k ∷ ks) = cond (same (k .id) id) (At 0) (oneOn (find id ks))
-
--- "the key of a table that has just one, and of another table none"
-unfoldable pub only : List Key → Found
-only ks = cond (eqb (length ks) 1) (At 0) Nothing

@@ -1,20 +1,16 @@
--- Laws of `find` and `only`.
+-- Laws of `find`.
 use mathlib.Core.Path.{_≡_, refl, sym, ap, _∙_}
 use mathlib.Core.Bool.{Bool, true, false, cond}
 use mathlib.Core.List.{List, [], _∷_}
 use Prim.Native.Nat.{ℕ, zero, suc, _<_}
 use native.Mathlib.Nat.{le-of-suc-le-suc, not-suc-le-zero}
 use native.Mathlib.Omega.{arith}
-use lib.Dec.{eqb}
-use lib.ListN.{length}
-use borrow.Author.Tests.{eq-eqb, ne-eqb}
 use Rattle.common.specs.First.{Decides, holds, fails}
-use Rattle.common.specs.FirstLaws.{decides-eq}
 use Rattle.keytable_rules.specs.declared.Found.{Found}
 use Rattle.keytable_rules.specs.declared.Found.the-variants.{At, Nothing}
 use Rattle.common.specs.Same.{same}
 use Rattle.common.specs.SameLaws.{decides-same}
-use Rattle.keytable_rules.specs.Key.{Key, key, Distinct, Named, Finds, first, none, oneOn, find, only}
+use Rattle.keytable_rules.specs.Key.{Key, key, Distinct, Named, Finds, first, none, oneOn, find}
 
 -- one key more in front
 named-tail : {id : List ℕ} {k : Key} {ks : List Key} {i : ℕ} → Named id (k ∷ ks) (suc i) → Named id ks i
@@ -71,20 +67,3 @@ not-found {id} {ks} e = go (find id ks) (finds id ks) e
 -- among distinct ids, the key that has the id is the one found
 pub find-is : {id : List ℕ} {ks : List Key} → Distinct ks → {i : ℕ} → Named id ks i → find id ks ≡ At i
 find-is {id} {ks} d {i} n = finds-one (finds id ks) (first n (λ j h e. d j i h (n .within) (e ∙ sym (n .is))))
-
--- the only key is key 0 of one
-pub only-one : (ks : List Key) → length ks ≡ 1 → only ks ≡ At 0
-unfolding only
-only-one ks e = simp (eq-eqb _ _ e)
-
-pub only-none : (ks : List Key) → (length ks ≡ 1 → ⊥) → only ks ≡ Nothing
-unfolding only
-only-none ks e = simp (ne-eqb _ _ e)
-
-pub only-found : (ks : List Key) {i : ℕ} → only ks ≡ At i → (i ≡ 0) × (length ks ≡ 1)
-unfolding only
-only-found ks {i} e = go (eqb (length ks) 1) (decides-eq (length ks) 1) e
-  where
-    go : (b : Bool) → Decides (length ks ≡ 1) b → cond b (At 0) Nothing ≡ At i → (i ≡ 0) × (length ks ≡ 1)
-    go true (holds d) e = let z : 0 ≡ i = cc in (sym z, d)
-    go false d e = let z : _≡_ {A = ℕ} 0 1 = cc in absurd (omega arith)

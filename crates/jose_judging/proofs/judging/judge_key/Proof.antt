@@ -18,7 +18,7 @@ use Rattle.jose_judging.proofs.judging.judge_key.Tie as tie
 -- the key is chosen, ..
 picked : (c : tie.After-known-told)
     → let a = c .before .before .before .before .before .args in
-    some (c .before .index .given .0 .0) ≡ chosenKey (a .facts .kid) (keys (now (a .table)))
+    some (c .before .index .given .0 .0) ≡ chosenKey (a .facts .kid)
 picked c = sym (ap indexOf (c .before .index .given .1)) ∙ c .before .before .before .key-of .ensures
 
 -- .. it allows the algorithm, ..

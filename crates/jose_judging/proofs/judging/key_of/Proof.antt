@@ -1,12 +1,7 @@
 -- `key_of`, by what `kid` says.
-use mathlib.Core.Path.{ap}
-use Rattle.jose_rules.specs.Facts.{indexOf}
 use borrow.Author.Needs.{needs}
 use Rattle.jose_judging.proofs.judging.key_of.Statement.{statement}
 use Rattle.jose_judging.proofs.judging.key_of.Tie as tie
-
-returns : tie.Need-returns
-returns c = rw (c .before .enum-told .given .1) (ap indexOf (c .only .ensures))
 
 returns-4 : tie.Need-returns-4
 returns-4 c = rw (c .before .kid .given .1)
@@ -15,7 +10,5 @@ pub key-of-spec : {M : Type 1} → statement M
 key-of-spec =
     tie.close
     (tie.spec
-    (λ c. search needs) (λ c κs. search needs) (λ c. search needs) (λ c. search needs) (λ c. search needs)
-    returns
-    (λ c. search needs) (λ c. search needs)
+    (λ c. search needs) (λ c. search needs) (λ c. search needs) (λ c. search needs) (λ c. search needs) (λ c. search needs) (λ c. search needs)
     returns-4)
