@@ -54,7 +54,7 @@ enum {
     JWS_WRONG_KIND = 9,          /* `alg` is missing, or a member with a meaning isn't what it must be */
     JWS_CRITICAL = 10,           /* `crit` breaks its rules, or `fmt` stands there and isn't listed */
     JWS_WRONG_ALG = 11,          /* `alg` is another algorithm */
-    JWS_NO_KEY = 12,             /* no key is found */
+    JWS_NO_KEY = 12,             /* `kid` is missing, or no key has this id */
     JWS_ALG_NOT_ALLOWED = 13,    /* the key doesn't allow HS256 */
     JWS_FORMAT_NOT_ALLOWED = 14, /* the key doesn't allow the format, or there is no such format */
     JWS_SIGNATURE_DIFFERS = 15,  /* the signature is another one */
@@ -77,7 +77,7 @@ enum {
     JWS_RECORD_HEADER_LENGTH = 0,  /* bytes of the decoded header */
     JWS_RECORD_PAYLOAD_LENGTH = 1, /* bytes of the payload */
     JWS_RECORD_KEY_INDEX = 2,      /* the key's index in the table, from 0 */
-    JWS_RECORD_KID_PRESENT = 3,    /* 1 if the header has `kid`, else 0 */
+    JWS_RECORD_KID_PRESENT = 3,    /* 1 if the header has `kid`, as every accepted one does, else 0 */
     JWS_RECORD_FORMAT = 4,         /* the format, 1 to 8 */
     JWS_RECORD_TYP_START = 5,      /* where the raw text of `typ` starts in the decoded header; 0 if absent */
     JWS_RECORD_TYP_LENGTH = 6,     /* its length in bytes; 0 if absent */
