@@ -127,8 +127,9 @@ fn payload_for_call(rng: &mut Rng, header_length: usize) -> Vec<u8> {
     rng.bytes(length)
 }
 
-/// A token under the key that the rules choose, or any secret where they choose none.
-fn make_token(rng: &mut Rng, header: &[u8], payload: &[u8], keys: &[Key]) -> Vec<u8> {
+/// A token under the key that the rules choose. Where they choose none it is under any key's secret, so that nothing but
+/// the rules refuses it.
+pub fn make_token(rng: &mut Rng, header: &[u8], payload: &[u8], keys: &[Key]) -> Vec<u8> {
     let chosen = json::read(header).and_then(|members| rules::choose(&members, keys));
     let secret = match chosen {
         Ok(choice) => keys[choice.key].secret.to_vec(),

@@ -26,6 +26,11 @@ struct Key {
 /// A valid table, of 0, 1, some, 31 or 32 keys.
 pub fn valid(rng: &mut Rng) -> Vec<u8> {
     let count = rng.pick(&[0, 1, 1, 1, 1, 1, 1, 2, 2, 3, 4, 7, 31, 32]);
+    valid_of(rng, count)
+}
+
+/// A valid table of `count` keys, at most 32.
+pub fn valid_of(rng: &mut Rng, count: usize) -> Vec<u8> {
     if count == 1 && rng.one_in(6) {
         return id_inside_secret(rng);
     }

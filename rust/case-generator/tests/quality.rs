@@ -1,7 +1,9 @@
 //! The generator reaches every answer, often enough to compare implementations by.
 
+use reference::answer::NO_KEY;
 use reference::json::{member, read};
-use reference::limits::TABLE_MAX;
+use reference::limits::{KEYS_MAX, TABLE_MAX};
+use reference::rules::choose;
 use reference::token::{sign, verify};
 use reference::{base64url, table};
 
@@ -47,6 +49,22 @@ fn every_answer_of_signing() {
         assert_eq!(count >= 50, possible, "answer {number}: {count} times");
     }
     assert!(tally[0] >= 4_000);
+}
+
+/// Of the headers that are read and keep the rules up to the key's, one in 8 or so has no `kid`.
+#[test]
+fn headers_with_and_without_a_name() {
+    let mut named = [0; 2];
+    for case in case_generator::sign_cases(SEED).take(20_000) {
+        let Ok(members) = read(&case.header) else { continue };
+        // With no key at hand this is the answer where no rule before it is broken.
+        if choose(&members, &[]) == Err(NO_KEY) {
+            named[usize::from(members.iter().any(|member| member.name == "kid"))] += 1;
+        }
+    }
+    println!("without kid, with kid: {named:?}");
+    let [without, with] = named;
+    assert!((5..=12).contains(&((without + with) / without)), "{named:?}");
 }
 
 #[test]
@@ -115,6 +133,10 @@ fn valid_tables_are_valid() {
     for case in 0..5_000 {
         let bytes = case_generator::table::valid(&mut case_generator::rng::Rng::of_case(SEED, case));
         assert!(table::parse(&bytes).is_ok(), "case {case}");
+    }
+    for count in 0..=KEYS_MAX {
+        let bytes = case_generator::table::valid_of(&mut case_generator::rng::Rng::new(SEED), count);
+        assert_eq!(table::parse(&bytes).map(|keys| keys.len()), Ok(count));
     }
 }
 

@@ -24,7 +24,7 @@ pub const WRONG_KIND: u8 = 9;
 pub const CRITICAL: u8 = 10;
 /// `alg` is another algorithm.
 pub const WRONG_ALG: u8 = 11;
-/// No key is found.
+/// `kid` is missing, or no key has this id.
 pub const NO_KEY: u8 = 12;
 /// The key doesn't allow HS256.
 pub const ALG_NOT_ALLOWED: u8 = 13;

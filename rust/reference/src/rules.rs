@@ -10,7 +10,7 @@ use crate::table::Key;
 pub struct Choice {
     /// The key's index, from 0.
     pub key: usize,
-    /// Whether `kid` was there.
+    /// Whether `kid` is there: always, since nothing else finds a key.
     pub kid: bool,
     /// 1 to 8; 1 where `fmt` is absent.
     pub format: u8,
@@ -29,7 +29,7 @@ pub fn choose(members: &[Member], keys: &[Key]) -> Result<Choice, u8> {
     if known.alg != "HS256" {
         return Err(WRONG_ALG);
     }
-    let key = find(keys, known.kid).ok_or(NO_KEY)?;
+    let key = known.kid.and_then(|kid| find(keys, kid)).ok_or(NO_KEY)?;
     if !keys[key].allows_hs256() {
         return Err(ALG_NOT_ALLOWED);
     }
@@ -119,10 +119,7 @@ fn integer(member: &Member) -> Option<i64> {
     }
 }
 
-/// The key whose id is the UTF-8 of `kid`; without `kid`, the key of a table that has just one.
-fn find(keys: &[Key], kid: Option<&str>) -> Option<usize> {
-    match kid {
-        Some(kid) => keys.iter().position(|key| key.id == kid.as_bytes()),
-        None => (keys.len() == 1).then_some(0),
-    }
+/// The key whose id is the UTF-8 of `kid`.
+fn find(keys: &[Key], kid: &str) -> Option<usize> {
+    keys.iter().position(|key| key.id == kid.as_bytes())
 }

@@ -20,7 +20,7 @@ pub struct Record {
     pub payload_length: usize,
     /// The key's index in the table, from 0.
     pub key_index: usize,
-    /// Whether `kid` was there.
+    /// Whether `kid` was there: always, since no other token is accepted.
     pub kid_present: bool,
     /// The format, 1 to 8.
     pub format: u8,

@@ -2,7 +2,7 @@
 
 mod common;
 
-use common::{entry, header_answer, one_key, rfc7515_secret, sign, table, token, verify, SECRET};
+use common::{header_answer, one_key, sign, token, verify, A1_NAMED, A1_TABLE, A1_TOKEN, HEADER, SECRET};
 use reference::base64url::{decode, encode, Fault};
 use reference::json::{self, Value};
 
@@ -12,7 +12,7 @@ fn segments() {
     assert_eq!(decode(b"JC4wMh"), Err(Fault { place: 5 }));
     assert_eq!(decode(b"JC4wM"), Err(Fault { place: 5 }));
     assert_eq!(decode(b""), Ok(vec![]));
-    let header = encode(b"{\"alg\":\"HS256\"}");
+    let header = encode(HEADER.as_bytes());
     let answer = |payload: &str| verify(format!("{header}.{payload}.").as_bytes(), &one_key()).answer;
     assert_eq!(answer("JC4wMg"), 15);
     assert_eq!(answer("JC4wMh"), 4);
@@ -24,13 +24,15 @@ fn segments() {
 fn headers() {
     assert_eq!(json::read(b"{\"alg\":\"HS256\"}").unwrap().len(), 1);
     for (header, answer) in [
-        (r#"{"alg":"HS256"}"#, 0),
+        (r#"{"alg":"HS256"}"#, 12),
+        (r#"{"alg":"HS256","kid":"k"}"#, 0),
         (r#"{"alg":"HS256","al\u0067":"HS256"}"#, 8),
         (r#"{"alg":"HS256",}"#, 7),
         (r#"{"alg":"HS256","x":"\uDD1E"}"#, 7),
         (r#"{"alg":"HS256","fmt":2}"#, 10),
         (r#"{"alg":"HS256","crit":["fmt"],"fmt":1e0}"#, 9),
-        (r#"{"alg":"HS256","x":[ ]}"#, 0),
+        (r#"{"alg":"HS256","x":[ ]}"#, 12),
+        (r#"{"alg":"HS256","kid":"k","x":[ ]}"#, 0),
     ] {
         assert_eq!(header_answer(header), answer, "{header}");
     }
@@ -43,7 +45,7 @@ fn headers() {
 fn nesting() {
     let header = |arrays: usize| {
         format!(
-            "{{\"alg\":\"HS256\",\"x\":{}{}}}",
+            "{{\"alg\":\"HS256\",\"kid\":\"k\",\"x\":{}{}}}",
             "[".repeat(arrays),
             "]".repeat(arrays)
         )
@@ -54,21 +56,21 @@ fn nesting() {
 
 #[test]
 fn token_lengths() {
-    // 20 characters of header and 43 of signature leave 16,319 for the payload.
-    let header = "{\"alg\":\"HS256\"}";
-    let longest = token(header, vec![b'p'; 12_239], SECRET);
+    // 35 characters of header and 43 of signature leave 16,304 for the payload.
+    let header = r#"{"alg":"HS256", "kid":"k"}"#;
+    let longest = token(header, vec![b'p'; 12_228], SECRET);
     assert_eq!(longest.len(), 16_384);
     assert_eq!(verify(&longest, &one_key()).answer, 0);
     assert_eq!(verify(&[&longest[..], b"A"].concat(), &one_key()).answer, 1);
-    assert_eq!(sign(header.as_bytes(), &[b'p'; 12_239], &one_key()), (0, longest));
-    assert_eq!(sign(header.as_bytes(), &[b'p'; 12_240], &one_key()).0, 1);
+    assert_eq!(sign(header.as_bytes(), &[b'p'; 12_228], &one_key()), (0, longest));
+    assert_eq!(sign(header.as_bytes(), &[b'p'; 12_229], &one_key()).0, 1);
     assert_eq!(verify(&[b'A'; 16_384], &one_key()).answer, 3);
     assert_eq!(verify(&[b'A'; 16_385], &one_key()).answer, 1);
 }
 
 #[test]
 fn header_lengths() {
-    let header = |length: usize| format!("{:length$}", "{\"alg\":\"HS256\"}");
+    let header = |length: usize| format!("{HEADER:length$}");
     assert_eq!(encode(header(1_024).as_bytes()).len(), 1_366);
     assert_eq!(header_answer(header(1_024)), 0);
     assert_eq!(header_answer(header(1_025)), 5);
@@ -98,14 +100,10 @@ fn program(token: &[u8], table: &[u8]) -> String {
 
 #[test]
 fn first_example() {
-    let token: &[u8] = b"eyJ0eXAiOiJKV1QiLA0KICJhbGciOiJIUzI1NiJ9\
-        .eyJpc3MiOiJqb2UiLA0KICJleHAiOjEzMDA4MTkzODAsDQogImh0dHA6Ly9leGFtcGxlLmNvbS9pc19yb290Ijp0cnVlfQ\
-        .dBjftJeZ4CVP-mB92K27uhbUJU1p1r_wW1gFWFOEjXk";
-    assert_eq!(token.len(), 179);
-    let table = table(&[entry("k", &rfc7515_secret(), 1)]);
-    assert_eq!(program(token, &table), "accepted key=0 fmt=1 payload=70");
-    assert_eq!(program(&[token, b"\n"].concat(), &table), "refused 4");
-    assert_eq!(program(token, b""), "refused 2");
-    assert_eq!(program(b"", &table), "refused 3");
+    assert_eq!(program(A1_NAMED, A1_TABLE), "accepted key=0 fmt=1 payload=70");
+    assert_eq!(program(A1_TOKEN, A1_TABLE), "refused 12");
+    assert_eq!(program(&[A1_NAMED, b"\n"].concat(), A1_TABLE), "refused 4");
+    assert_eq!(program(A1_NAMED, b""), "refused 2");
+    assert_eq!(program(b"", A1_TABLE), "refused 3");
     assert_eq!(program(b"", b""), "refused 2");
 }

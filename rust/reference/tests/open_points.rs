@@ -2,7 +2,9 @@
 
 mod common;
 
-use common::{entry, header_answer, one_key, sign, sign_with, table, token, verify, verify_with, Entry, SECRET};
+use common::{
+    entry, header_answer, one_key, sign, sign_with, table, token, verify, verify_with, Entry, HEADER, SECRET,
+};
 use reference::base64url::encode;
 use reference::token::{payload, Record};
 use reference::{json, table as keys};
@@ -18,10 +20,10 @@ fn p01_six_stands_before_seven() {
 
 #[test]
 fn p02_four_covers_all_segments_and_a_wrong_length_is_fifteen() {
-    let good = token("{\"alg\":\"HS256\"}", "abc", SECRET);
+    let good = token(HEADER, "abc", SECRET);
     let text = String::from_utf8(good.clone()).unwrap();
     let (signed, signature) = text.rsplit_once('.').unwrap();
-    for place in [0, 22, good.len() - 1] {
+    for place in [0, 36, good.len() - 1] {
         let mut bad = good.clone();
         bad[place] = b'=';
         assert_eq!(verify(&bad, &one_key()).answer, 4);
@@ -38,42 +40,71 @@ fn p02_four_covers_all_segments_and_a_wrong_length_is_fifteen() {
 }
 
 #[test]
-fn p03_a_kid_never_falls_back() {
+fn p03_a_key_is_found_by_its_name() {
     for (header, answer) in [
-        (r#"{"alg":"HS256"}"#, 0),
         (r#"{"alg":"HS256","kid":"k"}"#, 0),
         (r#"{"alg":"HS256","k\u0069d":"\u006B"}"#, 0),
         (r#"{"alg":"HS256","kid":""}"#, 12),
         (r#"{"alg":"HS256","kid":"K"}"#, 12),
         (r#"{"alg":"HS256","kid":"kk"}"#, 12),
+        (r#"{"alg":"HS256","Kid":"k"}"#, 12),
+        (r#"{"alg":"HS256","x":{"kid":"k"}}"#, 12),
+        (r#"{"alg":"HS256"}"#, 12),
     ] {
         assert_eq!(header_answer(header), answer, "{header}");
     }
-    // An id that isn't UTF-8 is legal, no kid names it, and the lone key is found without one.
-    let table = table(&[Entry {
-        id: &[0xFF],
-        secret: SECRET,
-        algorithms: 1,
-        formats: 1,
-    }]);
-    let answer = |header: &str| verify(&token(header, "", SECRET), &table).answer;
-    assert_eq!(answer(r#"{"alg":"HS256"}"#), 0);
-    assert_eq!(answer(r#"{"alg":"HS256","kid":"\u00FF"}"#), 12);
-}
-
-#[test]
-fn p03_no_kid_needs_a_one_key_table() {
     let two = table(&[entry("a", SECRET, 1), entry("b", SECRET, 1)]);
-    let answer = |header: &str, table: &[u8]| verify(&token(header, "", SECRET), table).answer;
-    assert_eq!(answer(r#"{"alg":"HS256"}"#, &two), 12);
-    assert_eq!(answer(r#"{"alg":"HS256"}"#, &[0, 1, 0, 0, 0, 0, 0, 8]), 12);
     let verified = verify(&token(r#"{"alg":"HS256","kid":"b"}"#, "", SECRET), &two);
     assert_eq!(verified.record.words(), [25, 0, 1, 1, 1, 0, 0, 0, 0]);
 }
 
+/// The answer of verifying a token of this header, signed with [`SECRET`], and of signing it.
+fn answers(header: &str, table: &[u8]) -> [u8; 2] {
+    let verified = verify(&token(header, "", SECRET), table);
+    [verified.answer, sign(header.as_bytes(), b"", table).0]
+}
+
+#[test]
+fn p03_without_a_name_no_key_is_found() {
+    let ids: Vec<String> = (0..32).map(|i| format!("key {i}")).collect();
+    for count in [0, 1, 2, 32] {
+        let entries: Vec<Entry> = ids[..count].iter().map(|id| entry(id, SECRET, 1)).collect();
+        let table = table(&entries);
+        assert_eq!(keys::parse(&table).unwrap().len(), count);
+        assert_eq!(answers(r#"{"alg":"HS256"}"#, &table), [12; 2], "{count} keys");
+        for id in &ids[..count] {
+            let header = format!(r#"{{"alg":"HS256","kid":"{id}"}}"#);
+            assert_eq!(answers(&header, &table), [0; 2], "{count} keys, {id}");
+        }
+    }
+}
+
+/// The table is good; but a text is always UTF-8, so that none is this id.
+#[test]
+fn p03_no_header_names_an_id_that_is_not_utf8() {
+    for id in [&[0xFF][..], b"\xC3", b"k\xED\xA0\x80"] {
+        let table = table(&[Entry {
+            id,
+            ..entry("", SECRET, 1)
+        }]);
+        assert_eq!(keys::parse(&table).unwrap()[0].id, id);
+        for (header, answer) in [
+            (r#"{"alg":"HS256"}"#, 12),
+            (r#"{"alg":"HS256","kid":"\u00FF"}"#, 12),
+            (r#"{"alg":"HS256","kid":"\u00C3"}"#, 12),
+            (r#"{"alg":"HS256","kid":"\uFFFD"}"#, 12),
+            (r#"{"alg":"HS256","kid":"k\uD800"}"#, 7),
+        ] {
+            assert_eq!(answers(header, &table), [answer; 2], "{id:?}, {header}");
+        }
+        let header = [&br#"{"alg":"HS256","kid":""#[..], id, b"\"}"].concat();
+        assert_eq!(sign(&header, b"", &table).0, 7);
+        assert_eq!(verify(&token(&header, "", SECRET), &table).answer, 7);
+    }
+}
+
 #[test]
 fn p04_algorithms_and_formats_may_be_zero() {
-    let header = r#"{"alg":"HS256"}"#;
     let answer = |algorithms: u8, formats: u8| {
         let table = table(&[Entry {
             id: b"k",
@@ -81,7 +112,7 @@ fn p04_algorithms_and_formats_may_be_zero() {
             algorithms,
             formats,
         }]);
-        verify(&token(header, "", SECRET), &table).answer
+        verify(&token(HEADER, "", SECRET), &table).answer
     };
     assert_eq!(answer(1, 1), 0);
     assert_eq!(answer(0, 1), 13);
@@ -93,7 +124,7 @@ fn p04_algorithms_and_formats_may_be_zero() {
     spare.extend([1, 2, 3]);
     let total = spare.len() as u32;
     spare[4..8].copy_from_slice(&total.to_be_bytes());
-    assert_eq!(verify(&token(header, "", SECRET), &spare).answer, 0);
+    assert_eq!(verify(&token(HEADER, "", SECRET), &spare).answer, 0);
     assert_eq!(keys::parse(&[0, 1, 0, 0, 0, 0, 0, 9, 255]), Ok(vec![]));
 }
 
@@ -121,8 +152,8 @@ fn p05_areas_overlap_each_other_but_not_the_entries() {
 
 #[test]
 fn p06_depth_counts_empty_ones() {
-    assert_eq!(header_answer(r#"{"alg":"HS256","x":[[[[[[{}]]]]]]}"#), 0);
-    assert_eq!(header_answer(r#"{"alg":"HS256","x":[[[[[[[{}]]]]]]]}"#), 7);
+    assert_eq!(header_answer(r#"{"alg":"HS256","kid":"k","x":[[[[[[{}]]]]]]}"#), 0);
+    assert_eq!(header_answer(r#"{"alg":"HS256","kid":"k","x":[[[[[[[{}]]]]]]]}"#), 7);
 }
 
 #[test]
@@ -136,19 +167,22 @@ fn p07_seven_stands_before_eight() {
 fn p08_key_members_are_ignored() {
     for name in ["jku", "jwk", "x5u", "x5t", "x5c"] {
         for value in ["\"k\"", "1", "true", "null", "[1]", "{\"k\":\"oct\"}"] {
-            assert_eq!(header_answer(format!(r#"{{"alg":"HS256","{name}":{value}}}"#)), 0);
+            let named = format!(r#"{{"alg":"HS256","kid":"k","{name}":{value}}}"#);
+            assert_eq!(header_answer(named), 0);
+            let nameless = format!(r#"{{"alg":"HS256","{name}":{value}}}"#);
+            assert_eq!(header_answer(nameless), 12);
         }
-        let listed = format!(r#"{{"alg":"HS256","{name}":"k","crit":["{name}"]}}"#);
+        let listed = format!(r#"{{"alg":"HS256","kid":"k","{name}":"k","crit":["{name}"]}}"#);
         assert_eq!(header_answer(listed), 10);
     }
 }
 
 #[test]
 fn p09_typ_and_cty_are_any_strings() {
-    let header = r#"{"typ":"","alg":"HS256","cty":"a\u0062\"c"}"#;
+    let header = r#"{"typ":"","alg":"HS256","kid":"k","cty":"a\u0062\"c"}"#;
     let verified = verify(&token(header, "", SECRET), &one_key());
-    assert_eq!(verified.record.words(), [43, 0, 0, 0, 1, 8, 0, 31, 10]);
-    assert_eq!(&verified.header[31..41], b"a\\u0062\\\"c");
+    assert_eq!(verified.record.words(), [53, 0, 0, 1, 1, 8, 0, 41, 10]);
+    assert_eq!(&verified.header[41..51], b"a\\u0062\\\"c");
     for value in ["1", "true", "null", "[]", "{}"] {
         assert_eq!(header_answer(format!(r#"{{"alg":"HS256","typ":{value}}}"#)), 9);
         assert_eq!(header_answer(format!(r#"{{"alg":"HS256","cty":{value}}}"#)), 9);
@@ -157,7 +191,7 @@ fn p09_typ_and_cty_are_any_strings() {
 
 #[test]
 fn p10_fmt() {
-    let answer = |fmt: &str| header_answer(format!(r#"{{"alg":"HS256","crit":["fmt"],"fmt":{fmt}}}"#));
+    let header = |fmt: &str| format!(r#"{{"alg":"HS256","kid":"k","crit":["fmt"],"fmt":{fmt}}}"#);
     for (fmt, expected) in [
         ("1", 0),
         ("2", 14),
@@ -183,14 +217,13 @@ fn p10_fmt() {
         ("01", 7),
         ("+1", 7),
     ] {
-        assert_eq!(answer(fmt), expected, "{fmt}");
+        assert_eq!(header_answer(header(fmt)), expected, "{fmt}");
     }
     // Every format against every mask of one bit.
     for bit in 0..8u8 {
         let table = table(&[entry("k", SECRET, 1 << bit)]);
         for fmt in 0..=9u8 {
-            let header = format!(r#"{{"alg":"HS256","crit":["fmt"],"fmt":{fmt}}}"#);
-            let verified = verify(&token(header, "", SECRET), &table);
+            let verified = verify(&token(header(&fmt.to_string()), "", SECRET), &table);
             assert_eq!(verified.answer, if fmt == bit + 1 { 0 } else { 14 });
             assert_eq!(verified.record.format, if fmt == bit + 1 { fmt } else { 0 });
         }
@@ -224,7 +257,7 @@ fn p11_crit() {
         (r#""crit":{},"fmt":1"#, 9),
         (r#""crit":null"#, 9),
     ] {
-        let header = format!(r#"{{"alg":"HS256",{members}}}"#);
+        let header = format!(r#"{{"alg":"HS256","kid":"k",{members}}}"#);
         assert_eq!(header_answer(&header), expected, "{header}");
     }
 }
@@ -248,7 +281,7 @@ fn p13_index_from_zero_and_format_one() {
 
 #[test]
 fn p14_the_order_of_signing() {
-    let good = b"{\"alg\":\"HS256\"}";
+    let good = HEADER.as_bytes();
     let long = vec![0; 20_000];
     // 2 before all, 5 and 7 to 14 before 1, 1 before 6.
     assert_eq!(sign_with(&long, &long, b"", 0).0, 2);
@@ -259,12 +292,12 @@ fn p14_the_order_of_signing() {
         12
     );
     assert_eq!(sign_with(good, &long, &one_key(), 0).0, 1);
-    assert_eq!(sign_with(good, b"", &one_key(), 64).0, 6);
+    assert_eq!(sign_with(good, b"", &one_key(), 78).0, 6);
     assert_eq!(sign_with(good, b"", &one_key(), 0).0, 6);
-    assert_eq!(sign_with(good, b"", &one_key(), 65).0, 0);
-    assert_eq!(sign(good, b"", &one_key()).1.len(), 65);
+    assert_eq!(sign_with(good, b"", &one_key(), 79).0, 0);
+    assert_eq!(sign(good, b"", &one_key()).1.len(), 79);
     // A length beyond the machine's numbers.
-    assert_eq!(reference::token::token_len(15, usize::MAX), usize::MAX);
+    assert_eq!(reference::token::token_len(good.len(), usize::MAX), usize::MAX);
 }
 
 #[test]
@@ -281,9 +314,9 @@ fn p15_the_payload_call() {
 
 #[test]
 fn p17_byte_order_mark_and_empty_header() {
-    assert_eq!(header_answer("\u{FEFF}{\"alg\":\"HS256\"}"), 7);
-    assert_eq!(header_answer(" \u{FEFF}{\"alg\":\"HS256\"}"), 7);
-    assert_eq!(header_answer("{\"alg\":\"HS256\",\"x\":\"\u{FEFF}\"}"), 0);
+    assert_eq!(header_answer(format!("\u{FEFF}{HEADER}")), 7);
+    assert_eq!(header_answer(format!(" \u{FEFF}{HEADER}")), 7);
+    assert_eq!(header_answer("{\"alg\":\"HS256\",\"kid\":\"k\",\"x\":\"\u{FEFF}\"}"), 0);
     assert_eq!(header_answer(""), 7);
     assert_eq!(verify(b"..", b"").answer, 2);
 }
@@ -292,8 +325,11 @@ fn p17_byte_order_mark_and_empty_header() {
 fn p18_nested_names_are_not_known() {
     assert_eq!(header_answer(r#"{"x":{"alg":"HS256"}}"#), 9);
     assert_eq!(
-        header_answer(r#"{"alg":"HS256","x":{"alg":1,"kid":1,"crit":1,"fmt":"","typ":1,"cty":1}}"#),
+        header_answer(r#"{"alg":"HS256","kid":"k","x":{"alg":1,"kid":1,"crit":1,"fmt":"","typ":1,"cty":1}}"#),
         0
     );
-    assert_eq!(header_answer(r#"{"alg":"HS256","x":{"fmt":1},"crit":["fmt"]}"#), 10);
+    assert_eq!(
+        header_answer(r#"{"alg":"HS256","kid":"k","x":{"fmt":1},"crit":["fmt"]}"#),
+        10
+    );
 }

@@ -2,6 +2,8 @@
 
 #![allow(dead_code)] // each test file uses a part of it
 
+pub mod rfc7520;
+
 use reference::base64url;
 use reference::hmac::hmac_sha256;
 use reference::token::{self, Record};
@@ -9,11 +11,12 @@ use reference::token::{self, Record};
 /// The secret of most tests.
 pub const SECRET: &[u8] = b"a secret of thirty-two bytes, so";
 
-/// The key of RFC 7515 A.1.1.
-pub fn rfc7515_secret() -> Vec<u8> {
-    base64url::decode(b"AyM1SysPpbyDfgZld3umj1qzKObwVMkoqQ-EstJQLr_T-1qS0gZH75aKtMN3Yj0iPS4hcgUuTwjAzZr1Z9CAow")
-        .unwrap()
-}
+/// The table of the key of RFC 7515 A.1: its id and, at the end, its secret of 64 bytes.
+pub const A1_TABLE: &[u8] = include_bytes!("../../../../crates/verify_token/data/table.bin");
+/// The token of RFC 7515 A.1, whose header has no `kid`.
+pub const A1_TOKEN: &[u8] = include_bytes!("../../../../crates/verify_token/data/nameless.txt");
+/// The same payload under a header that names the key.
+pub const A1_NAMED: &[u8] = include_bytes!("../../../../crates/verify_token/data/token.txt");
 
 /// A key for [`table`].
 pub struct Entry<'a> {
@@ -52,6 +55,9 @@ pub fn table(entries: &[Entry]) -> Vec<u8> {
     table.extend(areas);
     table
 }
+
+/// The header of most tests, which names the key of [`one_key`].
+pub const HEADER: &str = r#"{"alg":"HS256","kid":"k"}"#;
 
 /// The table of most tests: one key, id `k`, HS256 and format 1.
 pub fn one_key() -> Vec<u8> {
