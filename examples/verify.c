@@ -1,6 +1,6 @@
 /*
- * Verifies the token of RFC 7515 A.1 with its key alone in a table, prints what it holds, and signs it again. Both calls run on a stack
- * of their own, which is cleared afterwards: what they leave there may be the MAC and the secret.
+ * Verifies the payload of RFC 7515 A.1 under a header that names its key, prints what the token holds, and signs it again. Both calls run
+ * on a stack of their own, which is cleared afterwards: what they leave there may be the MAC and the secret.
  *
  *     cc -std=c99 -Wall -Wextra -Werror -Iinclude examples/verify.c target/staticlib/libjws_ffi.a -o verify
  *     cc -std=c99 examples/verify.c $(pkg-config --cflags --libs jws) -o verify       after make install
@@ -23,9 +23,10 @@ static const uint8_t table[96] = {
     0x3d, 0x2e, 0x21, 0x72, 0x05, 0x2e, 0x4f, 0x08, 0xc0, 0xcd, 0x9a, 0xf5, 0x67, 0xd0, 0x80, 0xa3,
 };
 
-static const char token[] = "eyJ0eXAiOiJKV1QiLA0KICJhbGciOiJIUzI1NiJ9"
+/* Its header: {"typ":"JWT","alg":"HS256","kid":"RFC 7515 A.1"} */
+static const char token[] = "eyJ0eXAiOiJKV1QiLCJhbGciOiJIUzI1NiIsImtpZCI6IlJGQyA3NTE1IEEuMSJ9"
                             ".eyJpc3MiOiJqb2UiLA0KICJleHAiOjEzMDA4MTkzODAsDQogImh0dHA6Ly9leGFtcGxlLmNvbS9pc19yb290Ijp0cnVlfQ"
-                            ".dBjftJeZ4CVP-mB92K27uhbUJU1p1r_wW1gFWFOEjXk";
+                            ".0ProYvRktBGSika-JrP2qSB7-nUzWXax5Np-pOrx8ak";
 enum { TOKEN_LENGTH = sizeof token - 1 };
 
 /* What the calls write. */

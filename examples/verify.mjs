@@ -1,4 +1,5 @@
-// Verifies the token of RFC 7515 A.1 by jws.wasm, prints what it holds, and signs it again. After `make nodes`:
+// Verifies the payload of RFC 7515 A.1 under a header that names its key, by jws.wasm, prints what the token holds, and signs it again.
+// After `make nodes`:
 //
 //     node examples/verify.mjs
 //
@@ -84,6 +85,7 @@ const again = jws.sign(accepted.header, accepted.payload, table);
 if (again.refused || Buffer.compare(again.token, token) !== 0) throw new Error("signed again: other bytes");
 console.log(`signed again: the same ${again.token.length} bytes`);
 
+// The last character, k, becomes o, whose unused bits are 0 too.
 token[token.length - 1] ^= 4;
 const forged = jws.verify(token, table);
 if (forged.refused !== 15) throw new Error("a forged token isn't refused with 15");

@@ -18,19 +18,21 @@ SECRET = b"0123456789abcdef" * 2
 
 
 def signed(tank, tenths, **members):
-    """A token for a tank, by Python's HMAC."""
+    """A token for a tank, by Python's HMAC. A member that is None is left out of the header."""
     part = lambda text: base64.urlsafe_b64encode(text).rstrip(b"=")
-    text = part(json.dumps({"alg": "HS256", "kid": "cellar 2", **members}).encode()) + b"." + part(struct.pack(">Hh", tank, tenths))
+    header = {name: value for name, value in {"alg": "HS256", "kid": "cellar 2", **members}.items() if value is not None}
+    text = part(json.dumps(header).encode()) + b"." + part(struct.pack(">Hh", tank, tenths))
     return text + b"." + part(hmac.new(SECRET, text, hashlib.sha256).digest())
 
 
 def conversation():
-    """It acts on a setpoint for its own tank, and on nothing else: not on a forged one, nor on one of next year's format."""
-    good, next_year = signed(7, 215), signed(7, 300, crit=["fmt"], fmt=2)
+    """It acts on a setpoint for its own tank, and on nothing else: not on a forged one, on one that names no key or on next year's format."""
+    good, nameless, next_year = signed(7, 215), signed(7, 300, kid=None), signed(7, 300, crit=["fmt"], fmt=2)
     other = "accepted, and nothing for this tank: setpoint 21.5"
     return [
-        (good, "setpoint 21.5"), (good[:-4] + b"AAAA", "refused 15: setpoint 21.5"), (next_year, "refused 14: setpoint 21.5"),
-        (signed(8, 300), other), (b"", "refused 3: setpoint 21.5"), (b"A" * 513, "too long for this node: setpoint 21.5"),
+        (good, "setpoint 21.5"), (good[:-4] + b"AAAA", "refused 15: setpoint 21.5"), (nameless, "refused 12: setpoint 21.5"),
+        (next_year, "refused 14: setpoint 21.5"), (signed(8, 300), other), (b"", "refused 3: setpoint 21.5"),
+        (b"A" * 513, "too long for this node: setpoint 21.5"),
         (signed(7, 451), other), (signed(7, -101), other), (signed(7, 450), "setpoint 45.0"), (signed(7, -100), "setpoint -10.0"),
         (good[1:], "refused 4: setpoint -10.0"), (b"A" * 512, "refused 3: setpoint -10.0"), (good, "setpoint 21.5"),
     ]

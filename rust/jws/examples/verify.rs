@@ -1,4 +1,4 @@
-//! Verifies the token of RFC 7515 A.1 with its key alone in a table, prints what it holds, and signs it again.
+//! Verifies the payload of RFC 7515 A.1 under a header that names its key, prints what the token holds, and signs it again.
 
 use std::error::Error;
 

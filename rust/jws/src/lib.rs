@@ -10,7 +10,8 @@
 //!
 //! # let table = include_bytes!(concat!(env!("CARGO_MANIFEST_DIR"), "/../../crates/verify_token/data/table.bin"));
 //! let mut token = [0; TOKEN_MAX];
-//! let length = jws::sign(br#"{"alg":"HS256"}"#, b"setpoint 21.5", table, &mut token)?;
+//! let header = br#"{"alg":"HS256","kid":"RFC 7515 A.1"}"#;
+//! let length = jws::sign(header, b"setpoint 21.5", table, &mut token)?;
 //!
 //! let mut header = [0; HEADER_MAX];
 //! let mut buffer = [0; PAYLOAD_MAX];

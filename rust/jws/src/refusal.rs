@@ -29,7 +29,7 @@ pub enum Refusal {
     Critical,
     /// `alg` is another algorithm.
     WrongAlg,
-    /// No key is found.
+    /// `kid` is missing, or no key has this id.
     NoKey,
     /// The key doesn't allow HS256.
     AlgNotAllowed,
@@ -144,7 +144,7 @@ impl fmt::Display for Refusal {
             Refusal::WrongKind => "`alg` is missing, or a member with a meaning isn't what it must be",
             Refusal::Critical => "`crit` breaks its rules, or `fmt` stands there and isn't listed",
             Refusal::WrongAlg => "`alg` is another algorithm",
-            Refusal::NoKey => "no key is found",
+            Refusal::NoKey => "`kid` is missing, or no key has this id",
             Refusal::AlgNotAllowed => "the key doesn't allow HS256",
             Refusal::FormatNotAllowed => "the key doesn't allow the format, or there is no such format",
             Refusal::SignatureDiffers => "the signature is another one",

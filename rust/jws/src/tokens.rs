@@ -23,7 +23,7 @@ pub struct Record {
     pub payload_length: usize,
     /// The key's index in the table, from 0.
     pub key_index: usize,
-    /// Whether the header has `kid`.
+    /// Whether the header has `kid`: always so, since no other token is accepted.
     pub kid_present: bool,
     /// The format, 1 to 8.
     pub format: u8,
@@ -113,7 +113,7 @@ fn signed(answer: u8, length: u64) -> Result<usize, Refusal> {
 ///
 /// The refusal is the first of [`Refusal::TokenTooLong`] to [`Refusal::SignatureDiffers`], in the order of their numbers.
 ///
-/// The token of RFC 7515 A.1, with its key alone in the table:
+/// The payload of RFC 7515 A.1 under a header that names its key, with this key in the table:
 ///
 /// ```
 /// use jws::{Refusal, HEADER_MAX, PAYLOAD_MAX};
@@ -127,7 +127,7 @@ fn signed(answer: u8, length: u64) -> Result<usize, Refusal> {
 /// assert_eq!(header[record.typ.clone().unwrap()], *b"JWT");
 /// assert!(record.payload(&buffer).starts_with(br#"{"iss":"joe","#));
 ///
-/// let refused = jws::verify(&token[..178], table, &mut header, &mut buffer).unwrap_err();
+/// let refused = jws::verify(&token[..202], table, &mut header, &mut buffer).unwrap_err();
 /// assert_eq!(refused.refusal, Refusal::NotBase64url);
 /// assert_eq!((header, buffer), ([0; HEADER_MAX], [0; PAYLOAD_MAX]));
 /// # Ok::<(), Refusal>(())
@@ -157,7 +157,7 @@ pub fn payload<'b>(record: &Record, buffer: &'b [u8]) -> &'b [u8] {
     record.payload(buffer)
 }
 
-/// Signs a header and a payload by a key of the table, and returns the token's length.
+/// Signs a header and a payload by the key of the table that the header's `kid` names, and returns the token's length.
 ///
 /// If it is signed, `token` holds the token and then zeros. If it is refused, `token` is all zeros. [`TOKEN_MAX`] bytes always
 /// suffice.
@@ -170,11 +170,12 @@ pub fn payload<'b>(record: &Record, buffer: &'b [u8]) -> &'b [u8] {
 ///
 /// # let table = include_bytes!(concat!(env!("CARGO_MANIFEST_DIR"), "/../../crates/verify_token/data/table.bin"));
 /// let mut buffer = [0; TOKEN_MAX];
-/// let length = jws::sign(br#"{"alg":"HS256"}"#, b"setpoint 21.5", table, &mut buffer)?;
-/// assert!(buffer[..length].starts_with(b"eyJhbGciOiJIUzI1NiJ9.c2V0cG9pbnQgMjEuNQ."));
+/// let header = br#"{"alg":"HS256","kid":"RFC 7515 A.1"}"#;
+/// let length = jws::sign(header, b"setpoint 21.5", table, &mut buffer)?;
+/// assert!(buffer[..length].starts_with(b"eyJhbGciOiJIUzI1NiIsImtpZCI6IlJGQyA3NTE1IEEuMSJ9.c2V0cG9pbnQgMjEuNQ."));
 ///
-/// let refused = jws::sign(br#"{"alg":"none"}"#, b"setpoint 21.5", table, &mut buffer);
-/// assert_eq!(refused, Err(Refusal::WrongAlg));
+/// let refused = jws::sign(br#"{"alg":"HS256"}"#, b"setpoint 21.5", table, &mut buffer);
+/// assert_eq!(refused, Err(Refusal::NoKey));
 /// assert_eq!(buffer, [0; TOKEN_MAX]);
 /// # Ok::<(), Refusal>(())
 /// ```

@@ -116,8 +116,9 @@ fn calls_from_c_and_cpp() {
                     3 0 0 0 0 0 0 0 0 0\n\
                     7 0 0 0 0 0 0 0 0 0\n\
                     2 0\n\
-                    0 65\n\
-                    0 15 0 0 0 1 0 0 0 0\n\
+                    12 0\n\
+                    0 79\n\
+                    0 25 0 0 1 1 0 0 0 0\n\
                     13\n\
                     0\n\
                     1\n";
@@ -256,7 +257,7 @@ fn residue_of_a_call() {
     let program = compiled("cc", &["-x", "c", "-Wl,-z,now"], "residue.c").unwrap();
     let table = format!("{HERE}/../../crates/verify_token/data/table.bin");
     let keys = std::fs::read(&table).unwrap();
-    let header = r#"{"alg":"HS256"}"#;
+    let header = r#"{"alg":"HS256","kid":"RFC 7515 A.1"}"#;
     let token = token_of(header, b"{\"tank\":2}", &keys[32..]);
     let end = token.iter().rposition(|&byte| byte == b'.').unwrap();
     let secrets = secrets_of(&keys[32..], &token[..end]);

@@ -49,7 +49,7 @@ fn header_rules_agree() {
     let answers = [0, 2, 5, 7, 8, 9, 10, 11, 12, 13, 14];
     println!("{}", by_answer(&calls, &answers));
     println!(
-        "without kid, with kid {named:?}; formats 1 to 8 {:?}; typ, cty {texts:?}",
+        "accepted without kid, with kid {named:?}; formats 1 to 8 {:?}; typ, cty {texts:?}",
         &formats[1..]
     );
     for answer in answers {
@@ -59,7 +59,8 @@ fn header_rules_agree() {
         calls.iter().sum::<usize>(),
         answers.iter().map(|&answer| calls[answer]).sum()
     );
-    assert!(named
+    assert_eq!(named[0], 0, "accepted without kid");
+    assert!(named[1..]
         .iter()
         .chain(&formats[1..])
         .chain(&texts)

@@ -6,6 +6,7 @@ use std::fs;
 use std::path::{Path, PathBuf};
 use std::process::Command;
 
+use common::{HEADER, LONGEST_PAYLOAD};
 use jws::TOKEN_MAX;
 use reference::limits::TABLE_MAX;
 
@@ -39,21 +40,34 @@ fn output_with(folder: &str, table: Option<&[u8]>, token: Option<&[u8]>, variabl
     String::from_utf8(output.stdout).unwrap()
 }
 
-/// A file of RFC 7515 A.1: its token, or its key alone in a table.
+/// A file of RFC 7515 A.1: the table of its key; its token, whose header has no `kid`; or its payload under a header that
+/// names the key.
 fn published(name: &str) -> Vec<u8> {
     fs::read(Path::new(HERE).join("../../crates/verify_token/data").join(name)).unwrap()
 }
 
+/// What is said of the payload of RFC 7515 A.1.
+const A1_ACCEPTED: &str = "accepted key=0 fmt=1 payload=70\n";
+
 #[test]
-fn published_token() {
+fn named_token() {
     let (table, token) = (published("table.bin"), published("token.txt"));
-    assert_eq!(token.len(), 179);
-    assert_eq!(
-        output("a1", Some(&table), Some(&token)),
-        "accepted key=0 fmt=1 payload=70\n"
-    );
+    assert_eq!(token.len(), 203);
+    assert_eq!(output("named", Some(&table), Some(&token)), A1_ACCEPTED);
     let lined = [&token[..], b"\n"].concat();
     assert_eq!(output("newline", Some(&table), Some(&lined)), "refused 4\n");
+}
+
+/// RFC 7515's token names no key; that of RFC 7520 does.
+#[test]
+fn published_tokens() {
+    let (table, token) = (published("table.bin"), published("nameless.txt"));
+    assert_eq!(token.len(), 179);
+    assert_eq!(output("rfc7515", Some(&table), Some(&token)), "refused 12\n");
+
+    let (table, token) = (common::rfc7520_table(), common::rfc7520::TOKEN);
+    let accepted = "accepted key=0 fmt=1 payload=167\n";
+    assert_eq!(output("rfc7520", Some(&table), Some(token)), accepted);
 }
 
 #[test]
@@ -69,8 +83,8 @@ fn missing_files() {
 #[test]
 fn longest_files() {
     let mut table = common::one_key();
-    let longest = common::raw_sign(br#"{"alg":"HS256"}"#, &[b'p'; 12_239], &table, TOKEN_MAX).buffer;
-    let accepted = "accepted key=0 fmt=1 payload=12239\n";
+    let longest = common::raw_sign(HEADER.as_bytes(), &LONGEST_PAYLOAD, &table, TOKEN_MAX).buffer;
+    let accepted = "accepted key=0 fmt=1 payload=12228\n";
     assert_eq!(output("longest", Some(&table), Some(&longest)), accepted);
     let longer = [&longest[..], b"A"].concat();
     assert_eq!(output("longer", Some(&table), Some(&longer)), "refused 1\n");
@@ -104,13 +118,10 @@ fn reads_that_fail() {
         output_with("failing", Some(table), Some(token), &variables)
     };
     // The bytes before the fault are a good token and a good table; judged alone they would be accepted.
-    assert_eq!(run(&table, &longer_token, "token.txt", 179), "refused 3\n");
+    assert_eq!(run(&table, &longer_token, "token.txt", 203), "refused 3\n");
     assert_eq!(run(&longer_table, &token, "table.bin", 96), "refused 2\n");
     assert_eq!(run(&table, &token, "token.txt", 0), "refused 3\n");
     // A file that ends before its reads would fail is read.
-    assert_eq!(
-        run(&table, &token, "token.txt", 180),
-        "accepted key=0 fmt=1 payload=70\n"
-    );
-    assert_eq!(run(&table, &longer_token, "token.txt", 181), "refused 4\n");
+    assert_eq!(run(&table, &token, "token.txt", 204), A1_ACCEPTED);
+    assert_eq!(run(&table, &longer_token, "token.txt", 205), "refused 4\n");
 }

@@ -2,27 +2,9 @@
 
 mod common;
 
-use common::{
-    by_answer, cases, one_key, raw_sign, raw_verify, reference_sign, reference_verify, safe_sign, safe_verify,
-};
-use common::{Calls, Signed, Verified, NO_CALLS};
+use common::{by_answer, cases, one_key, raw_sign, raw_verify, sign, verify};
+use common::{Calls, HEADER, LONGEST_PAYLOAD, NO_CALLS};
 use jws::{HEADER_MAX, PAYLOAD_MAX, TOKEN_MAX};
-
-/// Verifies by the proved code, raw and safe, and by the reference, which all agree.
-fn verify(token: &[u8], table: &[u8], header_len: usize, payload_len: usize) -> Verified {
-    let expected = reference_verify(token, table, header_len, payload_len);
-    assert_eq!(raw_verify(token, table, header_len, payload_len), expected);
-    assert_eq!(safe_verify(token, table, header_len, payload_len), expected);
-    expected
-}
-
-/// Signs by the proved code, raw and safe, and by the reference, which all agree.
-fn sign(header: &[u8], payload: &[u8], table: &[u8], token_len: usize) -> Signed {
-    let expected = reference_sign(header, payload, table, token_len);
-    assert_eq!(raw_sign(header, payload, table, token_len), expected);
-    assert_eq!(safe_sign(header, payload, table, token_len), expected);
-    expected
-}
 
 fn seen_often(calls: &Calls, answers: &[usize]) {
     for &answer in answers {
@@ -68,21 +50,18 @@ fn sign_agrees() {
     assert_eq!([calls[3], calls[4], calls[15], calls[16]], [0; 4]);
 }
 
-const HEADER: &[u8] = br#"{"alg":"HS256"}"#;
-
-/// 20 characters of header and 43 of signature, with two periods, leave 16,319 for the payload.
-const LONGEST_PAYLOAD: [u8; 12_239] = [b'p'; 12_239];
-
 #[test]
 fn token_lengths() {
     let table = one_key();
-    let longest = sign(HEADER, &LONGEST_PAYLOAD, &table, TOKEN_MAX);
+    let header = HEADER.as_bytes();
+    let longest = sign(header, &LONGEST_PAYLOAD, &table, TOKEN_MAX);
     assert_eq!((longest.answer, longest.length), (0, TOKEN_MAX as u64));
     assert_eq!(verify(longest.token(), &table, HEADER_MAX, PAYLOAD_MAX).answer, 0);
     let longer = [longest.token(), b"A"].concat();
     assert_eq!(verify(&longer, &table, HEADER_MAX, PAYLOAD_MAX).answer, 1);
     assert_eq!(verify(&longer, &[], 0, 0).answer, 1);
-    assert_eq!(sign(HEADER, &[b'p'; 12_240], &table, 20_000).answer, 1);
+    let longer = [&LONGEST_PAYLOAD[..], b"p"].concat();
+    assert_eq!(sign(header, &longer, &table, 20_000).answer, 1);
     assert_eq!(verify(&[b'A'; TOKEN_MAX], &table, HEADER_MAX, PAYLOAD_MAX).answer, 3);
     assert_eq!(
         verify(&[b'A'; TOKEN_MAX + 1], &table, HEADER_MAX, PAYLOAD_MAX).answer,
@@ -94,7 +73,7 @@ fn token_lengths() {
 #[test]
 fn header_lengths() {
     let table = one_key();
-    let padded = |length: usize| format!("{:length$}", r#"{"alg":"HS256"}"#).into_bytes();
+    let padded = |length: usize| format!("{HEADER:length$}").into_bytes();
     let signed = sign(&padded(HEADER_MAX), b"", &table, 2_000);
     assert_eq!((signed.answer, signed.length), (0, 1_366 + 45));
     assert_eq!(verify(signed.token(), &table, HEADER_MAX, 0).answer, 0);
@@ -106,14 +85,14 @@ fn header_lengths() {
 
 #[test]
 fn buffer_lengths() {
-    let table = one_key();
+    let (header, table) = (HEADER.as_bytes(), one_key());
     for payload in [&b""[..], b"p", b"setpoint 21.5"] {
-        let length = reference::token::token_len(HEADER.len(), payload.len());
-        assert_eq!(sign(HEADER, payload, &table, length).answer, 0);
-        assert_eq!(sign(HEADER, payload, &table, length - 1).answer, 6);
-        assert_eq!(sign(HEADER, payload, &table, 0).answer, 6);
-        let signed = sign(HEADER, payload, &table, length + 100);
-        let (h, p) = (HEADER.len(), payload.len());
+        let (h, p) = (header.len(), payload.len());
+        let length = reference::token::token_len(h, p);
+        assert_eq!(sign(header, payload, &table, length).answer, 0);
+        assert_eq!(sign(header, payload, &table, length - 1).answer, 6);
+        assert_eq!(sign(header, payload, &table, 0).answer, 6);
+        let signed = sign(header, payload, &table, length + 100);
         assert_eq!(verify(signed.token(), &table, h, p).answer, 0);
         assert_eq!(verify(signed.token(), &table, h + 1, p + 100).answer, 0);
         assert_eq!(verify(signed.token(), &table, h - 1, p).answer, 6);
@@ -128,13 +107,13 @@ fn buffer_lengths() {
 fn places_of_periods() {
     let table = one_key();
     for h in HEADER.len()..HEADER.len() + 48 {
-        let header = format!("{:h$}", std::str::from_utf8(HEADER).unwrap()).into_bytes();
+        let header = format!("{HEADER:h$}").into_bytes();
         for p in 0..48 {
             let signed = sign(&header, &LONGEST_PAYLOAD[..p], &table, 300);
             assert_eq!(verify(signed.token(), &table, h, p).answer, 0);
         }
     }
-    let signed = sign(HEADER, &LONGEST_PAYLOAD[..90], &table, 300);
+    let signed = sign(HEADER.as_bytes(), &LONGEST_PAYLOAD[..90], &table, 300);
     for place in 0..signed.token().len() {
         let mut token = signed.token().to_vec();
         let answer = if token[place] == b'.' { 0 } else { 3 };

@@ -24,7 +24,7 @@ use call::{Call, Function, Outcome};
 use common::{by_answer, deepest_headers, token_of, Calls, GARBAGE, NO_CALLS};
 use jws::ffi::RECORD_WORDS;
 use jws::{HEADER_MAX, PAYLOAD_MAX, TOKEN_MAX};
-use published::{published, Published, A1_TABLE};
+use published::{named, nameless, Published, A1_TABLE};
 
 /// The functions that refuse, with the answers that they give.
 const ANSWERS: [(Function, &[usize]); 3] = [
@@ -81,8 +81,9 @@ fn write(folder: &Path, name: &str, bytes: &[u8]) {
     std::fs::write(&path, bytes).unwrap_or_else(|error| panic!("{}: {error}", path.display()));
 }
 
-/// A published token: accepted with exact and with ample buffers, refused with another signature, and signed again.
-fn add_published(series: &mut Series, published: &Published) {
+/// A token that names its key: accepted with exact and with ample buffers, refused with another signature, and signed
+/// again.
+fn add_named(series: &mut Series, published: &Published) {
     let (token, table) = (&published.token[..], &published.table[..]);
     let (header, payload, forged) = (published.header(), published.payload(), published.forged());
     for [header_len, payload_len] in [[header.len(), payload.len()], [HEADER_MAX, PAYLOAD_MAX]] {
@@ -97,6 +98,21 @@ fn add_published(series: &mut Series, published: &Published) {
         let signed = series.add_placed(Call::sign(&header, &payload, table, token_len));
         assert_eq!((signed.answer, signed.words()), (0, &[token.len() as u64][..]));
         assert!(signed.area(3).starts_with(token));
+    }
+}
+
+/// A token that names no key: refused with 12, whatever its signature is, and not signed.
+fn add_nameless(series: &mut Series, published: &Published) {
+    let (header, payload, table) = (published.header(), published.payload(), &published.table[..]);
+    for token in [&published.token, &published.forged()] {
+        for [header_len, payload_len] in [[header.len(), payload.len()], [HEADER_MAX, PAYLOAD_MAX]] {
+            let refused = series.add_placed(Call::verify(token, table, header_len, payload_len));
+            assert_eq!(refused.answer, 12);
+        }
+    }
+    for token_len in [published.token.len(), TOKEN_MAX] {
+        let refused = series.add_placed(Call::sign(&header, &payload, table, token_len));
+        assert_eq!(refused.answer, 12);
     }
 }
 
@@ -152,31 +168,28 @@ fn signed(header: &str, payload: &[u8]) -> Vec<u8> {
 
 /// Tokens of 179 and of 16,000 bytes, as in `benches/tokens.rs`.
 fn timed() -> Vec<Figure> {
-    let [a1, ..] = published();
-    let header = String::from_utf8(a1.header()).expect("UTF-8");
-    let long = [
-        &b"00000000"[..],
-        &(8..11_936).map(|at| (at * 31) as u8).collect::<Vec<_>>(),
-    ]
-    .concat();
-    let token = signed(&header, &long);
-    assert_eq!([a1.token.len(), token.len()], [179, 16_000]);
+    let header = r#"{"alg":"HS256","kid":"RFC 7515 A.1"}"#;
+    let payloads = [64, 11_930].map(|length| {
+        let rest = (8..length).map(|at: usize| (at * 31) as u8);
+        b"00000000".iter().copied().chain(rest).collect::<Vec<u8>>()
+    });
+    let [short, long] = payloads.each_ref().map(|payload| signed(header, payload));
+    assert_eq!([short.len(), long.len()], [179, 16_000]);
     vec![
-        ("verify 179", verify(&a1.token), 0),
-        ("verify 16000", verify(&token), 0),
-        ("sign 179", sign(header.as_bytes(), &a1.payload()), 0),
-        ("sign 16000", sign(header.as_bytes(), &long), 0),
+        ("verify 179", verify(&short), 0),
+        ("verify 16000", verify(&long), 0),
+        ("sign 179", sign(header.as_bytes(), &payloads[0]), 0),
+        ("sign 16000", sign(header.as_bytes(), &payloads[1]), 0),
     ]
 }
 
-/// The published token with its signature changed in one character, at each place, to one of the same sort: how many instructions a refusal
-/// takes may not tell where.
+/// A token with its signature changed in one character, at each place, to one of the same sort: how many instructions a refusal takes may
+/// not tell where.
 fn forged() -> Vec<Figure> {
-    let [a1, ..] = published();
-    let signature = a1.token.len() - 43;
-    (signature..a1.token.len())
+    let [Published { token: good, .. }, ..] = named();
+    (good.len() - 43..good.len())
         .map(|at| {
-            let mut token = a1.token.clone();
+            let mut token = good.clone();
             token[at] = match token[at] {
                 b'-' => b'_',
                 b'_' => b'-',
@@ -241,8 +254,11 @@ fn main() {
     std::fs::create_dir_all(folder).expect("FOLDER can be made");
 
     let mut series = Series::default();
-    for published in published() {
-        add_published(&mut series, &published);
+    for published in named() {
+        add_named(&mut series, &published);
+    }
+    for published in nameless() {
+        add_nameless(&mut series, &published);
     }
     add_generated(&mut series, count);
     add_wide(&mut series);

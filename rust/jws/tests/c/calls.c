@@ -56,13 +56,13 @@ static void payload_length(uint64_t length, size_t room)
     printf("%lu\n", (unsigned long)jws_payload(record, room));
 }
 
-/* Tables of no key, and of one key whose id lies inside its secret. */
+/* Tables of no key, and of one key whose id, "k", lies inside its secret. */
 static const uint8_t no_key[8] = {0, 1, 0, 0, 0, 0, 0, 8};
-static const uint8_t one_key[52] = {0, 1, 0, 1, 0, 0, 0, 52, 0, 20, 0, 1, 0, 20, 0, 32, 1, 1, 0, 0};
+static const uint8_t one_key[52] = {0, 1, 0, 1, 0, 0, 0, 52, 0, 20, 0, 1, 0, 20, 0, 32, 1, 1, 0, 0, 'k'};
 
 int main(void)
 {
-    uint8_t token[100], header[15];
+    uint8_t token[100], header[25];
     uint64_t length;
     static uint8_t spaces[JWS_HEADER_MAX + 1];
     memset(spaces, ' ', sizeof spaces);
@@ -78,7 +78,8 @@ int main(void)
     verify(NULL, 0, no_key, sizeof no_key, NULL, 0);
     verify((const uint8_t *)"..", 2, no_key, sizeof no_key, NULL, 0);
     sign(NULL, NULL, 0, NULL, 0);
-    length = sign("{\"alg\":\"HS256\"}", one_key, sizeof one_key, token, sizeof token);
+    sign("{\"alg\":\"HS256\"}", one_key, sizeof one_key, token, sizeof token);
+    length = sign("{\"alg\":\"HS256\",\"kid\":\"k\"}", one_key, sizeof one_key, token, sizeof token);
     verify(token, length, one_key, sizeof one_key, header, sizeof header);
     payload_length(13, 13);
     payload_length(13, 12);

@@ -3,6 +3,9 @@
 #![allow(dead_code)] // each test file uses a part of it
 #![allow(unsafe_code)] // raw calls of the archive
 
+#[path = "../../../reference/tests/common/rfc7520.rs"]
+pub mod rfc7520;
+
 use jws::{ffi, Refusal};
 
 /// How many cases a test runs: `CASES` of the environment, or this many.
@@ -205,6 +208,22 @@ fn number<T, E: Into<Refusal>>(result: Result<T, E>) -> u8 {
     result.map_or_else(|error| error.into().number(), |_| 0)
 }
 
+/// Verifies by the proved code, raw and safe, and by the reference, which all agree.
+pub fn verify(token: &[u8], table: &[u8], header_len: usize, payload_len: usize) -> Verified {
+    let expected = reference_verify(token, table, header_len, payload_len);
+    assert_eq!(raw_verify(token, table, header_len, payload_len), expected);
+    assert_eq!(safe_verify(token, table, header_len, payload_len), expected);
+    expected
+}
+
+/// Signs by the proved code, raw and safe, and by the reference, which all agree.
+pub fn sign(header: &[u8], payload: &[u8], table: &[u8], token_len: usize) -> Signed {
+    let expected = reference_sign(header, payload, table, token_len);
+    assert_eq!(raw_sign(header, payload, table, token_len), expected);
+    assert_eq!(safe_sign(header, payload, table, token_len), expected);
+    expected
+}
+
 /// How many calls got each answer, by its number.
 pub type Calls = [usize; 256];
 
@@ -224,6 +243,13 @@ pub fn calls_by_answer(calls: &Calls) -> String {
     by_answer(calls, &[0, 5, 7, 8, 16])
 }
 
+/// A header that names the key of [`one_key`], 35 characters in a token. Without its space no payload would fill a token
+/// up to the longest.
+pub const HEADER: &str = r#"{"alg":"HS256", "kid":"k"}"#;
+
+/// The payload that does so under [`HEADER`]: two periods and 43 characters of signature leave it 16,304.
+pub const LONGEST_PAYLOAD: [u8; 12_228] = [b'p'; 12_228];
+
 /// The table of one key, id `k`, HS256 and format 1, of the secret that it ends with.
 pub fn one_key() -> Vec<u8> {
     table_of(b"k", b"a secret of thirty-two bytes, so")
@@ -237,6 +263,12 @@ pub fn table_of(id: &[u8], secret: &[u8; 32]) -> Vec<u8> {
     table.extend(id);
     table.extend(secret);
     table
+}
+
+/// The table of the key of RFC 7520's token.
+pub fn rfc7520_table() -> Vec<u8> {
+    let secret = reference::base64url::decode(rfc7520::SECRET).expect("base64url");
+    table_of(rfc7520::KEY_ID.as_bytes(), &secret.try_into().expect("32 bytes"))
 }
 
 /// Headers whose last member nests seven deep, of arrays and objects, with values of several kinds inside; and eight
