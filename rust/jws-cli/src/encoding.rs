@@ -1,6 +1,7 @@
-//! Bytes as text and back: hexadecimal, strict base64url, and text that is safe on a terminal.
+//! Bytes as text and back: hexadecimal, strict base64url, a JSON string's escapes, and text that is safe on a terminal.
 
 use std::fmt::Write;
+use std::str::Chars;
 
 /// The characters of base64url by their values (RFC 4648 section 5).
 const ALPHABET: &[u8; 64] = b"ABCDEFGHIJKLMNOPQRSTUVWXYZabcdefghijklmnopqrstuvwxyz0123456789-_";
@@ -67,6 +68,47 @@ pub fn base64url(bytes: &[u8]) -> String {
         }
     }
     text
+}
+
+/// The bytes of a token's header: its first segment.
+pub fn header_of(token: &[u8]) -> Result<Vec<u8>, Wrong> {
+    let segment = token.split(|&byte| byte == b'.').next();
+    from_base64url(segment.unwrap_or(&[]))
+}
+
+/// The text of a JSON string, whose raw text stands between the quotation marks: its escapes are resolved. `None` if it isn't the
+/// raw text of any.
+pub fn resolved(raw: &[u8]) -> Option<String> {
+    let mut units: Vec<u16> = Vec::new();
+    let mut rest = std::str::from_utf8(raw).ok()?.chars();
+    while let Some(character) = rest.next() {
+        if character == '\\' {
+            units.push(escaped(&mut rest)?);
+        } else {
+            units.extend(&*character.encode_utf16(&mut [0; 2]));
+        }
+    }
+    // The two escapes of a surrogate pair become one character.
+    String::from_utf16(&units).ok()
+}
+
+/// What follows a backslash, as a unit of UTF-16.
+fn escaped(rest: &mut Chars) -> Option<u16> {
+    match rest.next()? {
+        'b' => Some(0x08),
+        'f' => Some(0x0C),
+        'n' => Some(0x0A),
+        'r' => Some(0x0D),
+        't' => Some(0x09),
+        'u' => {
+            let digits = [(); 4].map(|()| rest.next().and_then(|digit| digit.to_digit(16)));
+            digits
+                .iter()
+                .try_fold(0, |unit, digit| Some(unit << 4 | (*digit)? as u16))
+        }
+        same @ ('"' | '\\' | '/') => Some(same as u16),
+        _ => None,
+    }
 }
 
 /// The bytes of a hexadecimal text, two digits each, small or capital.
@@ -163,6 +205,55 @@ mod tests {
             }
         }
         assert!(good > 1_000 && bad > 1_000, "{good} {bad}");
+    }
+
+    #[test]
+    fn strings_of_headers_as_the_reference_has_them() {
+        let (mut plain, mut with_escapes) = (0, 0);
+        for header in case_generator::headers(53).take(5_000) {
+            for member in reference::json::read(&header).unwrap_or_default() {
+                let mut strings = vec![(member.name_place, &*member.name)];
+                if let reference::json::Value::String(text) = &member.value {
+                    strings.push((member.value_place, text));
+                }
+                for (place, text) in strings {
+                    let raw = &header[place.start..place.end];
+                    assert_eq!(resolved(raw).as_deref(), Some(text), "{raw:?}");
+                    *(if raw == text.as_bytes() {
+                        &mut plain
+                    } else {
+                        &mut with_escapes
+                    }) += 1;
+                }
+            }
+        }
+        assert!(plain > 1_000 && with_escapes > 1_000, "{plain} {with_escapes}");
+    }
+
+    #[test]
+    fn resolved_escapes() {
+        for (raw, text) in [
+            ("", ""),
+            ("k\\u0069d", "kid"),
+            ("\\u006b\\u006B", "kk"),
+            ("\\\"\\\\\\/\\b\\f\\n\\r\\t", "\"\\/\u{8}\u{C}\n\r\t"),
+            ("\\uD834\\uDD1Eé", "\u{1D11E}é"),
+        ] {
+            assert_eq!(resolved(raw.as_bytes()).as_deref(), Some(text), "{raw}");
+        }
+        for raw in [
+            "\\",
+            "\\x",
+            "\\u",
+            "\\u006",
+            "\\u+069",
+            "\\u00 9",
+            "\\uD834",
+            "\\uDD1E\\uD834",
+        ] {
+            assert_eq!(resolved(raw.as_bytes()), None, "{raw}");
+        }
+        assert_eq!(resolved(b"k\xFF"), None);
     }
 
     #[test]

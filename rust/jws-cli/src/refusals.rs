@@ -1,6 +1,6 @@
 //! The numbered answers in plain words.
 
-use jws::Refusal;
+use jws::{Member, Refusal};
 
 use crate::encoding;
 
@@ -56,8 +56,8 @@ pub fn sentence(refusal: Refusal) -> &'static str {
         }
         Refusal::WrongAlg => "The only algorithm is HS256, written so: look at the header's `alg`.",
         Refusal::NoKey => {
-            "No key of the table has the id that `kid` names, or there is no `kid` and the table hasn't exactly one \
-             key: look at `kid` and at `jws-table show`."
+            "The header names its key by `kid`, and a key of the table must have exactly this id; without `kid` no \
+             key is taken, also where the table has just one: look at `kid` and at the ids in `jws-table show`."
         }
         Refusal::AlgNotAllowed => {
             "The key that was found may not be used with HS256: look at its algorithms in `jws-table show`."
@@ -100,7 +100,27 @@ pub fn token_details(refusal: Refusal, token: &[u8]) -> Vec<String> {
             vec![format!("Here: the token has {}.", encoding::counted(periods, "period"))]
         }
         Refusal::NotBase64url => segment_details(token),
+        _ => encoding::header_of(token).map_or(Vec::new(), |header| header_details(refusal, &header)),
+    }
+}
+
+/// What a header's own bytes show about a refusal.
+pub fn header_details(refusal: Refusal, header: &[u8]) -> Vec<String> {
+    match refusal {
+        Refusal::NoKey => vec![name_detail(header)],
         _ => Vec::new(),
+    }
+}
+
+/// Whether a header names a key, and how.
+fn name_detail(header: &[u8]) -> String {
+    let is_kid = |member: &Member| encoding::resolved(&header[member.name.clone()]).as_deref() == Some("kid");
+    match jws::members(header).ok().and_then(|mut members| members.find(is_kid)) {
+        None => "Here: the header has no `kid`; put the key's id into it, as in \"kid\":\"cellar 2\".".into(),
+        Some(kid) => format!(
+            "Here: `kid` is \"{}\", and no key of the table has this id.",
+            encoding::safe(&header[kid.value])
+        ),
     }
 }
 

@@ -119,6 +119,14 @@ pub fn shared(keys: &[Placed]) -> Vec<Shared> {
     found
 }
 
+/// The keys, from 0, whose ids aren't UTF-8. An id that has bytes of a secret isn't looked at: what is told may not depend on them.
+pub fn not_utf8(keys: &[Placed]) -> Vec<usize> {
+    let told = |placed: &Placed| within_secrets(&placed.id_at, keys).is_none();
+    let is_text = |placed: &Placed| std::str::from_utf8(&placed.key.id).is_ok();
+    let found = |&index: &usize| told(&keys[index]) && !is_text(&keys[index]);
+    (0..keys.len()).filter(found).collect()
+}
+
 /// How an id lies to the secrets, in words; `None` if it lies apart from all.
 pub fn within_secrets(id_at: &Range<usize>, keys: &[Placed]) -> Option<&'static str> {
     let is_secret = |byte: &usize| keys.iter().any(|other| other.secret_at.contains(byte));

@@ -74,7 +74,9 @@ Ids and secrets are written as
   hex:00ff..               two digits each byte
   base64url:AyM1..         strict base64url, as in a JSON Web Key
 
-A table has at most 32 keys; they keep the file's order, and the first has index 0. A key for tokens without kid must be alone.
+A table has at most 32 keys; they keep the file's order, and the first has index 0. A header names its key by the id, so an id
+should be text. A key whose id isn't UTF-8 gets a warning on standard error, in one line: kid is text, so that no header names this
+key, and nothing is signed or accepted by it. The table is written all the same.
 
 Each mistake is told with its line and column, and then no file is written. The table is checked by the proved library before
 it is written, and an existing TABLE.bin is replaced as a whole or not at all. A new TABLE.bin can be read by its owner only.
@@ -95,7 +97,9 @@ if it isn't printable UTF-8), its secret's length, where both lie in the file, i
 
 An id that shares bytes with a secret isn't printed without --secrets, only its length and its place. Then a warning on standard
 error says which bytes are shared, one line for each such id and secret: every token that names the key gives these bytes of the
-secret away, so make a new secret and build the table anew. The table is good all the same, and the exit status is 0.
+secret away, so make a new secret and build the table anew. A key whose id isn't UTF-8 and shares nothing gets a warning too, in one
+line: kid is text, so that no header names this key, and nothing is signed or accepted by it; give it an id that is text. The table
+is good all the same, and the exit status is 0.
 
 Exit status: 0 shown, 1 the table is bad (what is wrong is told), 2 wrong arguments or a file that can't be read.
 
@@ -113,7 +117,9 @@ one line each; bytes and entries count from 0. Faults of the entries are told on
 once the entries are. No byte is told that lies within a secret.
 
 A good table in which an id shares bytes with a secret gets warnings too, on standard error, one line for each such id and secret:
-every token that names the key gives these bytes of the secret away, so make a new secret and build the table anew.
+every token that names the key gives these bytes of the secret away, so make a new secret and build the table anew. A key whose id
+isn't UTF-8 and shares nothing gets a warning too, in one line: kid is text, so that no header names this key, and nothing is signed
+or accepted by it; give it an id that is text.
 
 Exit status: 0 good, 1 bad, 2 wrong arguments or a file that can't be read (or this command and the proved library differ about
 the table, which is a mistake in this command and is told).
@@ -143,20 +149,27 @@ fn build(options: &Options) -> Result<Answer, Failure> {
         }
     };
     let table = table::lay_out(&keys);
-    match table::judge(&table) {
-        Verdict::Good(placed) if placed.iter().map(|placed| &placed.key).eq(&keys) => {}
+    let placed = match table::judge(&table) {
+        Verdict::Good(placed) if placed.iter().map(|placed| &placed.key).eq(&keys) => placed,
         other => {
             return Err(Failure::Other(format!(
                 "the table came out wrong and isn't written: {other:?}"
             )))
         }
-    }
+    };
     if table_path == "-" {
-        return Ok(Answer::done(table));
+        return Ok(Answer {
+            err: warnings("standard output", &placed),
+            ..Answer::done(table)
+        });
     }
     files::write(table_path, &table, Readers::Owner)?;
+    let name = files::name(table_path);
     let (keys, bytes) = (counted(keys.len(), "key"), counted(table.len(), "byte"));
-    Ok(Answer::done(format!("{}: {keys}, {bytes}\n", files::name(table_path))))
+    Ok(Answer {
+        err: warnings(&name, &placed),
+        ..Answer::done(format!("{name}: {keys}, {bytes}\n"))
+    })
 }
 
 fn show(options: &Options) -> Result<Answer, Failure> {
@@ -232,14 +245,28 @@ fn check(options: &Options) -> Result<Answer, Failure> {
     }
 }
 
-/// A line for each id and secret that share bytes.
+/// A line for each id and secret that share bytes, and for each key that no header names.
 fn warnings(name: &str, keys: &[Placed]) -> String {
-    let warning = |shared: &Shared| format!("{name}: warning: {}\n", warning(shared, keys));
-    table::shared(keys).iter().map(warning).collect()
+    let shared = table::shared(keys);
+    let given_away = shared.iter().map(|shared| given_away(shared, keys));
+    let unnamed = table::not_utf8(keys).into_iter().map(|index| unnamed(index, keys));
+    let warnings = given_away.chain(unnamed);
+    warnings
+        .map(|warning| format!("{name}: warning: {warning}\n"))
+        .collect()
+}
+
+/// Why no header names a key, and what to do.
+fn unnamed(index: usize, keys: &[Placed]) -> String {
+    format!(
+        "key {index}'s id ({}) isn't UTF-8, and kid is text: no header names this key, so nothing is signed or accepted by it. \
+         Give it an id that is text and build the table anew.",
+        table::places(&keys[index].id_at)
+    )
 }
 
 /// Which bytes of a secret are given away, by what, and what to do.
-fn warning(shared: &Shared, keys: &[Placed]) -> String {
+fn given_away(shared: &Shared, keys: &[Placed]) -> String {
     let Shared {
         id_of,
         secret_of,

@@ -57,15 +57,16 @@ Exit status: 0 done, 1 refused, 2 wrong arguments, a file that can't be read or 
 library don't fit.
 
 Example:
-  printf '{\"alg\":\"HS256\"}' | jws-token sign --table table.bin --header - --payload setpoint.json --out token.txt
+  printf '{\"alg\":\"HS256\",\"kid\":\"cellar 2\"}' |
+    jws-token sign --table table.bin --header - --payload setpoint.json --out token.txt
   jws-token verify --table table.bin token.txt
 ";
 
 const SIGN_HELP: &str = "\
 jws-token sign --table TABLE.bin --header HEADER.json --payload FILE [--out TOKEN.txt] [--room BYTES]: signs a token
 
-The header chooses the key: by its kid, or the only key of a table of one. Header and payload go into the token byte for byte,
-with a newline at their end if there is one.
+The header chooses the key, by its kid. Header and payload go into the token byte for byte, with a newline at their end if there
+is one.
 
   --table TABLE.bin       the key table; `jws-table build` makes one
   --header HEADER.json    the header, or - for standard input
@@ -99,11 +100,11 @@ Example:
   $ jws-token verify --table table.bin token.txt
   accepted
   key: 0
-  kid: absent
+  kid: present
   format: 1
   typ: \"JWT\"
   cty: absent
-  header: 30 bytes
+  header: 48 bytes
   payload: 70 bytes
 ";
 
@@ -148,14 +149,13 @@ fn sign(options: &Options) -> Result<Answer, Failure> {
     let room = options.number("--room", TOKEN_MAX)?;
     one_standard_input(&[table, header, payload])?;
     let mut token = vec![0; room.min(TOKEN_MAX)];
-    let signed = jws::sign(
-        &files::read(header)?,
-        &files::read(payload)?,
-        &files::read(table)?,
-        &mut token,
-    );
+    let header_bytes = files::read(header)?;
+    let signed = jws::sign(&header_bytes, &files::read(payload)?, &files::read(table)?, &mut token);
     match (signed, options.value("--out").filter(|&out| out != "-")) {
-        (Err(refusal), _) => Ok(Answer::refused(refusals::told(refusal, &[]))),
+        (Err(refusal), _) => {
+            let details = refusals::header_details(refusal, &header_bytes);
+            Ok(Answer::refused(refusals::told(refusal, &details)))
+        }
         (Ok(length), None) => Ok(Answer::done(&token[..length])),
         (Ok(length), Some(out)) => {
             files::apart(out, &[table, header, payload])?;
@@ -240,8 +240,7 @@ fn header_of(token: &[u8]) -> Result<Vec<u8>, Refusal> {
         .map(Refusal::from);
     match refusal {
         None | Some(Refusal::WrongKind | Refusal::Critical | Refusal::WrongAlg | Refusal::NoKey) => {
-            let segment = token.split(|&byte| byte == b'.').next().unwrap_or(&[]);
-            encoding::from_base64url(segment).map_err(|_| Refusal::NotBase64url)
+            encoding::header_of(token).map_err(|_| Refusal::NotBase64url)
         }
         Some(refusal) => Err(refusal),
     }

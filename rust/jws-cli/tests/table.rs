@@ -71,19 +71,26 @@ fn without_places(text: &str) -> String {
 fn built_shown_and_checked() {
     let folder = Folder::new("round");
     let good = case_generator::tables(61).filter(|table| reference::table::parse(table).is_ok());
-    let mut keys_seen = 0;
+    let (mut keys_seen, mut unnamed_seen) = (0, 0);
     for (case, table) in good.take(TABLES).enumerate() {
         let keys = reference::table::parse(&table).unwrap();
         let (text, shown) = keys_file(&mut Rng::of_case(62, case as u64), &keys);
         folder.write("keys.txt", &text);
-        folder.run(TABLE, &["build", "keys.txt", "table.bin"]).done();
+        // Nothing is said beside but the warnings of the table, the same each time.
+        let done = |words: &[&str]| {
+            let ran = folder.run(TABLE, words);
+            let warnings = warned(&folder.read("table.bin"));
+            assert_eq!((ran.status, &ran.err), (0, &warnings), "{words:?}");
+            ran.text().to_string()
+        };
+        done(&["build", "keys.txt", "table.bin"]);
         let built = folder.read("table.bin");
         let again = reference::table::parse(&built).unwrap();
         assert_eq!(again, keys, "case {case}: {text}");
         assert_eq!(shared(&built), [], "case {case}: {text}");
-        assert_eq!(folder.run(TABLE, &["check", "table.bin"]).done().lines().count(), 1);
-        let said = folder.run(TABLE, &["show", "--secrets", "table.bin"]);
-        let (first, rest) = said.done().split_once('\n').unwrap();
+        assert_eq!(done(&["check", "table.bin"]).lines().count(), 1);
+        let said = done(&["show", "--secrets", "table.bin"]);
+        let (first, rest) = said.split_once('\n').unwrap();
         let noun = if keys.len() == 1 { "key" } else { "keys" };
         assert_eq!(
             first,
@@ -91,9 +98,10 @@ fn built_shown_and_checked() {
         );
         assert_eq!(without_places(rest), shown, "case {case}");
         keys_seen += keys.len();
+        unnamed_seen += warned(&built).lines().count();
     }
-    println!("{TABLES} tables, {keys_seen} keys");
-    assert!(keys_seen > TABLES);
+    println!("{TABLES} tables, {keys_seen} keys, {unnamed_seen} that no header names");
+    assert!(keys_seen > TABLES && unnamed_seen > TABLES / 10);
 }
 
 /// The command's verdict is the reference's, and a bad table gets a sentence that names bytes and a rule.
@@ -585,7 +593,28 @@ fn warned(table: &[u8]) -> String {
              table anew: `jws-table build` lays ids and secrets apart.\n"
         )
     };
-    shared(table).iter().map(line).collect()
+    let given_away: String = shared(table).iter().map(line).collect();
+    given_away + &unnamed("table.bin", table)
+}
+
+/// The warnings of keys that no header names. Of an id that has bytes of a secret nothing is said here.
+fn unnamed(name: &str, table: &[u8]) -> String {
+    let shared = shared(table);
+    let mut said = String::new();
+    for (k, (id, _)) in areas(table).into_iter().enumerate() {
+        let kept = shared.iter().any(|(of, ..)| *of == k);
+        if !kept && std::str::from_utf8(&table[id.clone()]).is_err() {
+            said += &unnamed_key(name, k, &places(id.start, id.end - 1));
+        }
+    }
+    said
+}
+
+fn unnamed_key(name: &str, k: usize, at: &str) -> String {
+    format!(
+        "{name}: warning: key {k}'s id ({at}) isn't UTF-8, and kid is text: no header names this key, so nothing is signed or \
+         accepted by it. Give it an id that is text and build the table anew.\n"
+    )
 }
 
 /// A table of keys with these areas, for HS256 and formats 1 and 3, and of these bytes behind the entries.
@@ -796,6 +825,42 @@ fn secrets_taken_for_entries_are_kept() {
     says(&folder, &["check", "table.bin"], 1, &bad, "");
     says(&folder, &["show", "table.bin"], 1, "", &bad);
     says(&folder, &["show", "--secrets", "table.bin"], 1, "", &bad);
+}
+
+#[test]
+fn an_id_that_is_not_utf8_is_warned_of() {
+    let folder = Folder::new("not-utf8");
+    let key = |id: &str| format!("id {id} secret \"{}\" algorithms HS256 formats 1\n", "s".repeat(32));
+    let ids = ["\"é\"", "hex:ff", "\"cellar\\xC3\""];
+    folder.write("keys.txt", ids.map(key).concat());
+    let warnings = |name: &str| unnamed_key(name, 1, "byte 78") + &unnamed_key(name, 2, "bytes 111-117");
+    let said = |words: &[&str], out: &str| says(&folder, words, 0, out, &warnings("table.bin"));
+    said(&["build", "keys.txt", "table.bin"], "table.bin: 3 keys, 150 bytes\n");
+    said(&["check", "table.bin"], "table.bin: good table, 3 keys\n");
+    let rest = |at: &str| format!("secret of 32 bytes (bytes {at}), algorithms HS256, formats 1");
+    let shown = [
+        "edition 1, 3 keys, 150 bytes".to_string(),
+        format!("key 0: id \"é\" (bytes 44-45), {}", rest("46-77")),
+        format!("key 1: id hex:ff (byte 78), {}", rest("79-110")),
+        format!("key 2: id hex:63656c6c6172c3 (bytes 111-117), {}\n", rest("118-149")),
+    ];
+    said(&["show", "table.bin"], &shown.join("\n"));
+    let built = folder.run(TABLE, &["build", "keys.txt", "-"]);
+    let expected = (0, folder.read("table.bin"), warnings("standard output"));
+    assert_eq!((built.status, built.out, built.err), expected);
+    for subcommand in ["build", "show", "check"] {
+        let help = folder.run(TABLE, &[subcommand, "--help"]);
+        assert!(help.done().replace('\n', " ").contains("whose id isn't UTF-8"));
+    }
+}
+
+/// Whether an id is text isn't told where it has bytes of a secret: it would tell something of them.
+#[test]
+fn an_id_inside_a_secret_is_not_told_to_be_text() {
+    let folder = Folder::new("inside-not-utf8");
+    let said_of = |byte: u8| said(&folder, &table_of(&[(20..21, 20..52)], &[byte; 32]));
+    assert_eq!(said_of(0xFF), said_of(b'A'));
+    assert!(!said_of(0xFF)[1].2.contains("UTF-8"));
 }
 
 /// All that is said of a table without `--secrets`.

@@ -12,11 +12,11 @@ use jws_cli::table::{lay_out, Key};
 /// Generated calls of each test that runs commands over them.
 const CALLS: usize = 200;
 
-/// The header and the payload of RFC 7515 A.1.
-const HEADER: &[u8] = b"{\"typ\":\"JWT\",\r\n \"alg\":\"HS256\"}";
+/// A header that names the key of RFC 7515 A.1, and the payload of the token there.
+const HEADER: &[u8] = br#"{"typ":"JWT","alg":"HS256","kid":"RFC 7515 A.1"}"#;
 const PAYLOAD: &[u8] = b"{\"iss\":\"joe\",\r\n \"exp\":1300819380,\r\n \"http://example.com/is_root\":true}";
 
-/// A folder with the published table and token and a table of three keys: `a`; `b` without HS256; `c` with format 2 alone.
+/// A folder with the table and the tokens of that key and a table of three keys: `a`; `b` without HS256; `c` with format 2 alone.
 fn folder(name: &str) -> Folder {
     let folder = Folder::new(name);
     let key = |id: &[u8], algorithms, formats| Key {
@@ -25,8 +25,9 @@ fn folder(name: &str) -> Folder {
         algorithms,
         formats,
     };
-    folder.write("table.bin", published("table.bin"));
-    folder.write("token.txt", published("token.txt"));
+    for name in ["table.bin", "token.txt", "nameless.txt"] {
+        folder.write(name, published(name));
+    }
     folder.write(
         "three.bin",
         lay_out(&[key(b"a", 1, 0xFF), key(b"b", 0, 0xFF), key(b"c", 1, 2)]),
@@ -61,11 +62,11 @@ fn published_token() {
     let signed = sign(&folder, "table.bin", HEADER, PAYLOAD, &[]);
     assert_eq!((signed.status, &signed.out, signed.err.as_str()), (0, &token, ""));
     let signed = sign(&folder, "table.bin", HEADER, PAYLOAD, &["--out", "signed.txt"]);
-    assert_eq!(signed.done(), "signed.txt: 179 bytes\n");
+    assert_eq!(signed.done(), "signed.txt: 203 bytes\n");
     assert_eq!(folder.read("signed.txt"), token);
 
     let report =
-        "accepted\nkey: 0\nkid: absent\nformat: 1\ntyp: \"JWT\"\ncty: absent\nheader: 30 bytes\npayload: 70 bytes\n";
+        "accepted\nkey: 0\nkid: present\nformat: 1\ntyp: \"JWT\"\ncty: absent\nheader: 48 bytes\npayload: 70 bytes\n";
     let verified = verify(&folder, "table.bin", &token, &["--payload-out", "payload.out"]);
     assert_eq!(verified.done(), report);
     assert_eq!(folder.read("payload.out"), PAYLOAD);
@@ -77,8 +78,9 @@ fn published_token() {
         (0, PAYLOAD, report)
     );
 
-    let members =
-        "member 0: \"typ\" at 2..5, string \"JWT\" at 8..11\nmember 1: \"alg\" at 17..20, string \"HS256\" at 23..28\n";
+    let members = "member 0: \"typ\" at 2..5, string \"JWT\" at 8..11\n\
+                   member 1: \"alg\" at 14..17, string \"HS256\" at 20..25\n\
+                   member 2: \"kid\" at 28..31, string \"RFC 7515 A.1\" at 34..46\n";
     assert_eq!(folder.run(TOKEN, &["members", "--token", "token.txt"]).done(), members);
     assert_eq!(folder.run(TOKEN, &["members", "header.json"]).done(), members);
     assert_eq!(folder.run_on(TOKEN, &["members", "-"], HEADER).done(), members);
@@ -86,6 +88,47 @@ fn published_token() {
         folder.run_on(TOKEN, &["members", "--token", "-"], &token).done(),
         members
     );
+}
+
+/// The last line of what is said of a header for which no key is found, the same of verifying and of signing.
+fn no_key_found(folder: &Folder, table: &str, header: &[u8]) -> String {
+    let verified = verify(folder, table, &unsigned(header), &[]);
+    let signed = sign(folder, table, header, b"pp", &[]);
+    assert_eq!([verified.refused(), signed.refused()], [12; 2]);
+    assert_eq!(verified.err, signed.err);
+    let (sentence, here) = signed.err.trim_end().rsplit_once('\n').unwrap();
+    assert!(sentence.contains("without `kid` no key is taken"), "{sentence}");
+    here.to_string()
+}
+
+#[test]
+fn why_no_key_is_found() {
+    let folder = folder("no-key");
+    let nameless = "Here: the header has no `kid`; put the key's id into it, as in \"kid\":\"cellar 2\".";
+    for header in [
+        r#"{"alg":"HS256"}"#,
+        r#"{"alg":"HS256","Kid":"a"}"#,
+        r#"{"alg":"HS256","x":{"kid":"a"}}"#,
+    ] {
+        for table in ["table.bin", "three.bin"] {
+            assert_eq!(no_key_found(&folder, table, header.as_bytes()), nameless);
+        }
+    }
+    let verified = folder.run(TOKEN, &["verify", "--table", "table.bin", "nameless.txt"]);
+    assert_eq!(verified.refused(), 12);
+    assert!(verified.err.ends_with(&format!("\n{nameless}\n")), "{}", verified.err);
+
+    for (member, shown) in [
+        (r#""kid":"""#, ""),
+        (r#""kid":"A""#, "A"),
+        (r#""k\u0069d":"\u0041""#, r"\u0041"),
+        ("\"kid\":\"\u{7F}é\u{202E}\"", r"\x7Fé\xE2\x80\xAE"),
+        (r#""x":{"kid":"a"},"kid":"x""#, "x"),
+    ] {
+        let header = format!("{{\"alg\":\"HS256\",{member}}}");
+        let said = format!("Here: `kid` is \"{shown}\", and no key of the table has this id.");
+        assert_eq!(no_key_found(&folder, "three.bin", header.as_bytes()), said);
+    }
 }
 
 #[test]
@@ -159,8 +202,9 @@ fn every_refusal_of_verify() {
     for (header, number) in WRONG_HEADERS {
         refused("three.bin", &unsigned(header.as_bytes()), &[], number);
     }
-    refused("table.bin", &token[..136], &[], 15);
-    refused("table.bin", &[&token[..178], b"w"].concat(), &[], 15);
+    refused("table.bin", &published("nameless.txt"), &[], 12);
+    refused("table.bin", &token[..160], &[], 15);
+    refused("table.bin", &[&token[..202], b"w"].concat(), &[], 15);
     for number in 1..=15 {
         assert!(seen.contains(&number), "{number}");
     }
@@ -183,20 +227,20 @@ fn every_refusal_of_sign() {
         assert!(!folder.0.join("never.txt").exists());
         ran.refused()
     };
-    let plain = br#"{"alg":"HS256"}"#;
+    let plain = br#"{"alg":"HS256","kid":"RFC 7515 A.1"}"#;
     assert_eq!(refused("bad.bin", plain, b"", &[]), 2);
     assert_eq!(refused("three.bin", &long_header(HEADER_MAX + 1), b"", &[]), 5);
     for (header, number) in WRONG_HEADERS {
         assert_eq!(refused("three.bin", header.as_bytes(), b"pp", &[]), number, "{header}");
     }
-    assert_eq!(refused("table.bin", plain, &[b'p'; 12_240], &[]), 1);
-    assert_eq!(refused("table.bin", plain, b"", &["--room", "64"]), 6);
+    assert_eq!(refused("table.bin", plain, &[b'p'; 12_219], &[]), 1);
+    assert_eq!(refused("table.bin", plain, b"", &["--room", "92"]), 6);
     assert_eq!(
-        sign(&folder, "table.bin", plain, b"", &["--room", "65"]).done().len(),
-        65
+        sign(&folder, "table.bin", plain, b"", &["--room", "93"]).done().len(),
+        93
     );
     assert_eq!(
-        sign(&folder, "table.bin", plain, &[b'p'; 12_239], &[]).done().len(),
+        sign(&folder, "table.bin", plain, &[b'p'; 12_218], &[]).done().len(),
         TOKEN_MAX
     );
 }
@@ -211,7 +255,7 @@ fn a_newline_gets_a_hint() {
         assert!(
             verified
                 .err
-                .contains("Here: in the signature, at byte 179 of the token: white space"),
+                .contains("Here: in the signature, at byte 203 of the token: white space"),
             "{}",
             verified.err
         );
@@ -317,6 +361,12 @@ fn generated_calls() {
         let ran = sign(&folder, "table.bin", &case.header, &case.payload, &["--room", &room]);
         assert_eq!(number(&ran), answer, "{case:?}");
         assert_eq!(ran.out, token[..length]);
+        if answer == 12 {
+            let members = reference::json::read(&case.header).unwrap();
+            let named = members.iter().any(|member| member.name == "kid");
+            assert_eq!(ran.err.contains("\nHere: `kid` is \""), named, "{}", ran.err);
+            assert_eq!(ran.err.contains("\nHere: the header has no `kid`"), !named);
+        }
         *seen.entry(answer).or_insert(0) += 1;
     }
     for header in case_generator::headers(73).take(CALLS) {

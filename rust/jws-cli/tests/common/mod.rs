@@ -106,7 +106,8 @@ impl Folder {
     }
 }
 
-/// A file of RFC 7515 A.1: its token, or its key alone in a table.
+/// A file of RFC 7515 A.1: the table of its key; its token, whose header has no `kid`; or its payload under a header that names
+/// the key.
 pub fn published(name: &str) -> Vec<u8> {
     let here = Path::new(env!("CARGO_MANIFEST_DIR"));
     fs::read(here.join("../../crates/verify_token/data").join(name)).unwrap()
