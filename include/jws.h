@@ -77,7 +77,7 @@ enum {
     JWS_RECORD_HEADER_LENGTH = 0,  /* bytes of the decoded header */
     JWS_RECORD_PAYLOAD_LENGTH = 1, /* bytes of the payload */
     JWS_RECORD_KEY_INDEX = 2,      /* the key's index in the table, from 0 */
-    JWS_RECORD_KID_PRESENT = 3,    /* 1 if the header has `kid`, as every accepted one does, else 0 */
+    JWS_RECORD_KID_PRESENT = 3,    /* 1: the header has `kid`, as every accepted one has; 0 after a refusal */
     JWS_RECORD_FORMAT = 4,         /* the format, 1 to 8 */
     JWS_RECORD_TYP_START = 5,      /* where the raw text of `typ` starts in the decoded header; 0 if absent */
     JWS_RECORD_TYP_LENGTH = 6,     /* its length in bytes; 0 if absent */
@@ -125,7 +125,7 @@ uint8_t jws_verify(const uint8_t *token, uint64_t token_len, const uint8_t *tabl
 uint64_t jws_payload(const uint64_t record[JWS_RECORD_WORDS], uint64_t payload_len);
 
 /*
- * Signs a header and a payload by a key of the table.
+ * Signs a header and a payload by the key of the table that the header names by `kid`.
  *
  * header:  the header's bytes, as they shall stand in the token.
  * payload: the payload.

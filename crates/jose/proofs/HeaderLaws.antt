@@ -21,7 +21,6 @@ use Rattle.json_members.specs.declared.slots.Slot.{Slot}
 use Rattle.json_members.specs.declared.slots.Slot.the-variants.{Absent, Is}
 use Rattle.json_members.specs.Members.{MembersFrom, TopMembers}
 use Rattle.json_members.specs.Slots.{itemOf, ShowsAs, ShowsAll, Within, sizeOf}
-use Rattle.keytable_rules.specs.Key.{Key}
 use Rattle.keytable_rules.specs.Table.{badTable, keys}
 use Rattle.jose_rules.specs.declared.Facts.{Facts}
 use Rattle.jose_rules.specs.declared.Verdict.{Verdict}

@@ -73,7 +73,7 @@ pub examples :
     × Answers ("alg" ∶ text "HS256" then "crit" ∶ array ("jku" ∷ []) then "jku" ∶ trueV then mnil) (hs1 ∷ []) 10
     -- alg isn't `HS256`
     × Answers ("alg" ∶ text "HS512" then mnil) (hs1 ∷ []) 11
-    -- no key found: `kid` is missing, of a table with one key as of any other, or no key has this id
+    -- no key found: `kid` is missing, whichever keys there are, or no key has this id
     × Answers ("alg" ∶ text "HS256" then mnil) [] 12
     × Answers ("alg" ∶ text "HS256" then mnil) (hs1 ∷ []) 12
     × Answers ("alg" ∶ text "HS256" then mnil) (hs1 ∷ hs28 ∷ []) 12

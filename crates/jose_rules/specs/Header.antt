@@ -47,14 +47,6 @@ ValueAt h n (lcons m ms) p = ((nameOf m ≡ n) × (p ≡ valuePart (placed h m))
 abbrev pub RawText : List ℕ → List ℕ → LMembers → Part → Type 0
 RawText h n ms p = ValueAt h n ms p ⊎ (((q : Part) → ValueAt h n ms q → ⊥) × (p ≡ nowhere))
 
--- WHICH KEY A HEADER NAMES: the one whose id is the UTF-8 of its `kid`, ..
-abbrev pub NamesKey : List ℕ → List Key → ℕ → Type 0
-NamesKey h ks i = (t : Derivation) × (bytes t ≡ h) × Chosen (readingOf t) ks i
-
--- .. and none, of whichever keys, where it has no `kid`
-abbrev pub NamesNoKey : List ℕ → Type 0
-NamesNoKey h = (t : Derivation) × (bytes t ≡ h) × Lacks kid (readingOf t)
-
 -- h is a header in order, and decides c
 pub record HeaderChooses (h : List ℕ) (q : Terms) (c : Choice) : Type 0 where
   pub derivation : Derivation
@@ -65,3 +57,11 @@ pub record HeaderChooses (h : List ℕ) (q : Terms) (c : Choice) : Type 0 where
   pub chooses : Chooses (readingOf derivation) (q .keys) c
   pub typ-is : RawText h typ (membersOf derivation) (c .typ)
   pub cty-is : RawText h cty (membersOf derivation) (c .cty)
+
+-- WHICH KEY A HEADER NAMES: the one whose id is the UTF-8 of its `kid`, ..
+abbrev pub NamesKey : List ℕ → List Key → ℕ → Type 0
+NamesKey h ks i = (t : Derivation) × (bytes t ≡ h) × Chosen (readingOf t) ks i
+
+-- .. and none, of whichever keys, where it has no `kid`
+abbrev pub NamesNoKey : List ℕ → Type 0
+NamesNoKey h = (t : Derivation) × (bytes t ≡ h) × Lacks kid (readingOf t)

@@ -79,7 +79,7 @@ first-key n = (rw (blank n), rw (blank n))
 abbrev pub nameless : List ℕ
 nameless = ascii "{\"alg\":\"HS256\"}"
 
--- 12: where it names none, and where that key has another id, `B`
+-- 12: where the header names no key, and where the one key has another id, `B`
 pub no-key : (first (joseTests nameless (record { keys = single 65 })) ≡ 12) × (first (joseTests (naming 0) (record { keys = single 66 })) ≡ 12)
 unfolding missingOrWrong criticalBroken lacking factsOf algFact kidFact textFact critFact fmtFact lookup find ascii alg kid typ cty crit fmt HS256 utf8 octets
     same among repeated names twice plain plainMembers read readValue readChars readChar charLead valueLead skip isUnescaped1 within isWs

@@ -42,7 +42,7 @@ module _ {h : List ℕ} {q : Terms} {c : Choice} (w : HeaderChooses h q c) where
       let one = only-said ms (unique-names ms (w .once)) string kid in
       named .is ∙ ap utf8 (only-is [] one said ∙ sym (only-is [] one (k .1))) ∙ sym (k .2 .is)
 
-  -- .. and a header that names none isn't one.
+  -- .. and it isn't a header that names none.
   pub names-some : NamesNoKey h → ⊥
   names-some (t, e, none) = let s = w .chooses .key-is .1 in none (s .0) (rw (one-reading t (w .derivation) (e ∙ sym (w .derives))) (s .1))
 

@@ -1,4 +1,5 @@
--- The promises speak of something: a table, and headers and payloads up to the limits, whose tokens are signed and accepted; one byte more, and they are refused.
+-- The promises speak of something: a table, and headers and payloads up to the limits, whose tokens are signed and accepted; one byte more, and they are refused; and so are a header that
+-- names no key, and a token by a table that has its secret under another id.
 -- No hash is computed.
 use mathlib.Core.Path.{_≡_, refl, sym, ap, _∙_}
 use mathlib.Core.List.{List, [], _∷_, _++_}
@@ -45,7 +46,7 @@ table = one 52 (entry 20 1 20 32 1 0)
 abbrev pub secret : List ℕ
 secret = replicate 32 65
 
--- the token of that header and a payload
+-- the token of the header `{"alg":"HS256","kid":"A"}`, with n spaces behind it, and a payload
 abbrev pub token : ℕ → List ℕ → List ℕ
 token n p = tokenOf secret (header n) p
 
@@ -143,7 +144,7 @@ module _ (n : ℕ) (p : List ℕ) (bytes : Bytes p) (short : finishedLength (hea
     pub no-payload-room : pr < length p → verifyAnswer (taking (token n p) hr pr) ≡ 6
     no-payload-room k = payload-room-refused (taking (token n p) hr pr) verifying-passes-5 (omega (arith, ap length (its-parts .payload)))
 
--- A HEADER THAT FINDS NO KEY, and is in order but for that: 12, whichever secret made the token, and in signing.
+-- A SHORT HEADER THAT FINDS NO KEY, and is in order but for that: 12, with a payload that leaves the token short, whichever secret made it; and in signing.
 module _ (h T : List ℕ) (short : length h ≤ 40) (good : Wellformed T) (computed : first (joseTests h (termsOf T)) ≡ 12) where
   stands : condition (joseRules h (termsOf T)) 12 × NoneOf (earlier (joseRules h (termsOf T)) 12)
   stands = first-stands (jose-agree h (termsOf T) (distinct T (λ x. x good))) refl 12 refl .0 computed
@@ -214,10 +215,10 @@ pub record Inhabited : Type 0 where
   pub no-signature : verifyAnswer (taking (encode (header 0) dot encode [] dot []) 25 0) ≡ 15
   -- the header `{"alg":"HS256"}` names no key: its token is refused, though the table has one key and the signature is by its secret
   pub names-none : NamesNoKey nameless
-  pub nameless-refused : (p : List ℕ) → Bytes p → length p ≤ 12000 → verifyAnswer (taking (tokenOf secret nameless p) 15 12000) ≡ 12
-  pub nameless-unsigned : (p : List ℕ) (room : ℕ) → signAnswer (signOf nameless p table room) ≡ 12
+  pub verify-nameless : (p : List ℕ) → Bytes p → length p ≤ 12000 → verifyAnswer (taking (tokenOf secret nameless p) 15 12000) ≡ 12
+  pub sign-nameless : (p : List ℕ) (room : ℕ) → signAnswer (signOf nameless p table room) ≡ 12
   -- a token that the table accepts, by a table of the same secret under another id
-  pub other-id-refused : (p : List ℕ) → Bytes p → length p ≤ 12000 → verifyAnswer (verifyOf (token 0 p) other 25 12000) ≡ 12
+  pub verify-other-id : (p : List ℕ) → Bytes p → length p ≤ 12000 → verifyAnswer (verifyOf (token 0 p) other 25 12000) ≡ 12
 
 -- its segments and their bytes are computed
 without-signature : verifyAnswer (taking (encode (header 0) dot encode [] dot []) 25 0) ≡ 15
@@ -255,7 +256,7 @@ inhabited =
       periods-alone = two-periods table table-good 25 0;
       no-signature = without-signature;
       names-none = names-no-key;
-      nameless-refused = λ p b k. no-key-verified nameless table (omega arith) table-good (rw (examples .its-key) (no-key .0)) secret p b k 15 12000 (omega arith) k;
-      nameless-unsigned = no-key-signed nameless table (omega arith) table-good (rw (examples .its-key) (no-key .0));
-      other-id-refused = λ p b k. no-key-verified (header 0) other (omega arith) other-good (rw other-key (no-key .1)) secret p b k 25 12000 (omega arith) k;
+      verify-nameless = λ p b k. no-key-verified nameless table (omega arith) table-good (rw (examples .its-key) (no-key .0)) secret p b k 15 12000 (omega arith) k;
+      sign-nameless = no-key-signed nameless table (omega arith) table-good (rw (examples .its-key) (no-key .0));
+      verify-other-id = λ p b k. no-key-verified (header 0) other (omega arith) other-good (rw other-key (no-key .1)) secret p b k 25 12000 (omega arith) k;
     }

@@ -1,7 +1,6 @@
 -- The promises about which key is taken: the one that the header names, and none where it names none. Theorems on `verified` and `signed`, as in Promises.
-use mathlib.Core.Path.{_≡_, refl}
+use mathlib.Core.Path.{_≡_, refl, ap}
 use mathlib.Core.Bool.{true}
-use mathlib.Core.List.{List}
 use Prim.Native.Nat.{ℕ, _<_}
 use lib.ListN.{length}
 use Rattle.common.specs.First.{NoneOf, earlier}
@@ -9,12 +8,12 @@ use Rattle.keytable_rules.specs.Key.{key}
 use Rattle.keytable_rules.specs.Table.{keys}
 use Rattle.jose_rules.specs.Header.{NamesKey, NamesNoKey}
 use Rattle.jose_rules.specs.NamingLaws.{kid-there, names-its-key, names-one, names-some}
-use Rattle.jws_rules.specs.declared.Record.{Record}
 use Rattle.jws_rules.specs.Calls.{VerifyCall, SignCall}
 use Rattle.jws_rules.specs.Token.{tokenOf, headerOf}
-use Rattle.jws_rules.specs.Outcomes.{signedAs}
-use Rattle.jws_rules.specs.Rules.{verifying, signing, Accepted}
-use Rattle.jws_rules.specs.Tests.{tokenChoice, verifyAnswer, signed, signAnswer}
+use Rattle.jws_rules.specs.Outcomes.{VerifyOutcome, signedAs}
+use Rattle.jws_rules.specs.Rules.{verifying, signing}
+use Rattle.jws_rules.specs.Tests.{tokenChoice, verified, verifyAnswer, signed, signAnswer}
+use Rattle.jws_rules.specs.RuleLaws.{verify-is}
 use Rattle.jws_rules.specs.AcceptedLaws.{accepted-only, sign-header}
 use Rattle.jws_rules.specs.Promises.{verify-first, sign-first, sign-gives}
 
@@ -34,9 +33,12 @@ pub sign-nameless-12 : (q : SignCall) → NamesNoKey (q .header) → NoneOf (ear
 sign-nameless-12 q (t, e, lacks) n = sign-first q 12 refl .1 ((t, e, λ i c. lacks (c .1 .0) (c .1 .1)), n)
 
 -- WHAT IS ACCEPTED names the key whose index the record has, and the record says that `kid` is there.
-pub accepted-names : (q : VerifyCall) (h p : List ℕ) (r : Record) → Accepted q h p r
-    → NamesKey h (keys (q .table)) (r .choice .«key_index») × (r .choice .«kid_present» ≡ true)
-accepted-names q h p r a = (names-its-key (a .header), kid-there (a .header))
+pub accepted-names : (q : VerifyCall) → verifyAnswer q ≡ 0
+    → let c = verified q .gives .details .choice in
+    NamesKey (headerOf (q .token)) (keys (q .table)) (c .«key_index») × (c .«kid_present» ≡ true)
+accepted-names q e =
+    let w = accepted-only q e .header in
+    rw (ap (λ (v : VerifyOutcome). v .gives .details) (verify-is q e)) (names-its-key w, kid-there w)
 
 -- WHAT IS SIGNED is the token under the secret of the key that the header names.
 pub signed-by-name : (q : SignCall) → signAnswer q ≡ 0

@@ -1,9 +1,9 @@
--- What the exported functions promise of the words that they write: all are 0 after a refusal; and the payload's length is that of the payload call.
+-- What the exported functions promise of the words that they write: all are 0 after a refusal; word 3 of a record is 1 after acceptance; and the payload's length is that of the payload call.
 use mathlib.Core.Path.{_≡_, refl, sym}
 use mathlib.Core.List.{List}
 use Prim.Native.Nat.{ℕ}
 use native.Mathlib.Omega.{arith}
-use lib.ListN.{length, replicate}
+use lib.ListN.{length, replicate, getD}
 use lib.Seq.{length-take-le}
 use borrow.Author.Tests.{le-leb}
 use Rattle.json_rules.specs.declared.Member.{Member}
@@ -14,12 +14,17 @@ use Rattle.jws_rules.specs.Calls.{VerifyCall, SignCall}
 use Rattle.jws_rules.specs.Outcomes.{payload, partLength}
 use Rattle.jws_rules.specs.Tests.{verified, signed}
 use Rattle.jws_rules.specs.Promises.{verify-zeros, sign-zeros, part-within}
+use Rattle.jws_rules.specs.Naming.{accepted-names}
 use Rattle.jws_words.specs.Words.{recordWords, verifyGives, verifyWords, signGives, signWords, foundWords, memberWords, payloadWord}
 
 -- jws_verify: the nine words and both buffers
 pub verify-words-zero : (q : VerifyCall) → (verifyWords (verified q) .number ≡ 0 → ⊥)
     → verifyWords (verified q) ≡ verifyGives (verifyWords (verified q) .number) (replicate 9 0) (replicate (q .headerRoom) 0) (replicate (q .payloadRoom) 0)
 verify-words-zero q n = let z = verify-zeros q n in rw (z .0, z .1, z .2)
+
+-- .. and word 3 is 1 after every acceptance: the header has `kid`
+pub verify-word-kid : (q : VerifyCall) → verifyWords (verified q) .number ≡ 0 → getD (verifyWords (verified q) .words) 3 0 ≡ 1
+verify-word-kid q e = rw (accepted-names q e .1)
 
 -- jws_sign: the length and the buffer
 pub sign-words-zero : (q : SignCall) → (signWords (signed q) .number ≡ 0 → ⊥)

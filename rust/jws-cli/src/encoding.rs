@@ -70,14 +70,14 @@ pub fn base64url(bytes: &[u8]) -> String {
     text
 }
 
-/// The bytes of a token's header: its first segment.
-pub fn header_of(token: &[u8]) -> Result<Vec<u8>, Wrong> {
+/// The bytes of a token's first segment, its header.
+pub fn header_segment(token: &[u8]) -> Result<Vec<u8>, Wrong> {
     let segment = token.split(|&byte| byte == b'.').next();
     from_base64url(segment.unwrap_or(&[]))
 }
 
-/// The text of a JSON string, whose raw text stands between the quotation marks: its escapes are resolved. `None` if it isn't the
-/// raw text of any.
+/// The text that the raw text of a JSON string stands for. `None` where an escape isn't one, a surrogate stands alone or the bytes
+/// aren't UTF-8; what else may not stand in a string isn't looked at.
 pub fn resolved(raw: &[u8]) -> Option<String> {
     let mut units: Vec<u16> = Vec::new();
     let mut rest = std::str::from_utf8(raw).ok()?.chars();

@@ -57,7 +57,7 @@ pub fn sentence(refusal: Refusal) -> &'static str {
         Refusal::WrongAlg => "The only algorithm is HS256, written so: look at the header's `alg`.",
         Refusal::NoKey => {
             "The header names its key by `kid`, and a key of the table must have exactly this id; without `kid` no \
-             key is taken, also where the table has just one: look at `kid` and at the ids in `jws-table show`."
+             key is taken, even where the table has just one: look at `kid` and at the ids in `jws-table show`."
         }
         Refusal::AlgNotAllowed => {
             "The key that was found may not be used with HS256: look at its algorithms in `jws-table show`."
@@ -100,7 +100,7 @@ pub fn token_details(refusal: Refusal, token: &[u8]) -> Vec<String> {
             vec![format!("Here: the token has {}.", encoding::counted(periods, "period"))]
         }
         Refusal::NotBase64url => segment_details(token),
-        _ => encoding::header_of(token).map_or(Vec::new(), |header| header_details(refusal, &header)),
+        _ => encoding::header_segment(token).map_or(Vec::new(), |header| header_details(refusal, &header)),
     }
 }
 

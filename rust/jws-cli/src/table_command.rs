@@ -75,7 +75,7 @@ Ids and secrets are written as
   base64url:AyM1..         strict base64url, as in a JSON Web Key
 
 A table has at most 32 keys; they keep the file's order, and the first has index 0. A header names its key by the id, so an id
-should be text. A key whose id isn't UTF-8 gets a warning on standard error, in one line: kid is text, so that no header names this
+should be text. A key whose id isn't UTF-8 gets a warning on standard error, in one line: kid is text, so that no header can name this
 key, and nothing is signed or accepted by it. The table is written all the same.
 
 Each mistake is told with its line and column, and then no file is written. The table is checked by the proved library before
@@ -98,7 +98,7 @@ if it isn't printable UTF-8), its secret's length, where both lie in the file, i
 An id that shares bytes with a secret isn't printed without --secrets, only its length and its place. Then a warning on standard
 error says which bytes are shared, one line for each such id and secret: every token that names the key gives these bytes of the
 secret away, so make a new secret and build the table anew. A key whose id isn't UTF-8 and shares nothing gets a warning too, in one
-line: kid is text, so that no header names this key, and nothing is signed or accepted by it; give it an id that is text. The table
+line: kid is text, so that no header can name this key, and nothing is signed or accepted by it; give it an id that is text. The table
 is good all the same, and the exit status is 0.
 
 Exit status: 0 shown, 1 the table is bad (what is wrong is told), 2 wrong arguments or a file that can't be read.
@@ -118,7 +118,7 @@ once the entries are. No byte is told that lies within a secret.
 
 A good table in which an id shares bytes with a secret gets warnings too, on standard error, one line for each such id and secret:
 every token that names the key gives these bytes of the secret away, so make a new secret and build the table anew. A key whose id
-isn't UTF-8 and shares nothing gets a warning too, in one line: kid is text, so that no header names this key, and nothing is signed
+isn't UTF-8 and shares nothing gets a warning too, in one line: kid is text, so that no header can name this key, and nothing is signed
 or accepted by it; give it an id that is text.
 
 Exit status: 0 good, 1 bad, 2 wrong arguments or a file that can't be read (or this command and the proved library differ about
@@ -245,28 +245,30 @@ fn check(options: &Options) -> Result<Answer, Failure> {
     }
 }
 
-/// A line for each id and secret that share bytes, and for each key that no header names.
+/// A line for each id and secret that share bytes, and for each key that no header can name.
 fn warnings(name: &str, keys: &[Placed]) -> String {
     let shared = table::shared(keys);
-    let given_away = shared.iter().map(|shared| given_away(shared, keys));
-    let unnamed = table::not_utf8(keys).into_iter().map(|index| unnamed(index, keys));
+    let given_away = shared.iter().map(|shared| given_away_warning(shared, keys));
+    let unnamed = table::not_utf8(keys)
+        .into_iter()
+        .map(|index| unnamed_warning(index, keys));
     let warnings = given_away.chain(unnamed);
     warnings
         .map(|warning| format!("{name}: warning: {warning}\n"))
         .collect()
 }
 
-/// Why no header names a key, and what to do.
-fn unnamed(index: usize, keys: &[Placed]) -> String {
+/// Why no header can name a key, and what to do.
+fn unnamed_warning(index: usize, keys: &[Placed]) -> String {
     format!(
-        "key {index}'s id ({}) isn't UTF-8, and kid is text: no header names this key, so nothing is signed or accepted by it. \
+        "key {index}'s id ({}) isn't UTF-8, and kid is text: no header can name this key, so nothing is signed or accepted by it. \
          Give it an id that is text and build the table anew.",
         table::places(&keys[index].id_at)
     )
 }
 
 /// Which bytes of a secret are given away, by what, and what to do.
-fn given_away(shared: &Shared, keys: &[Placed]) -> String {
+fn given_away_warning(shared: &Shared, keys: &[Placed]) -> String {
     let Shared {
         id_of,
         secret_of,

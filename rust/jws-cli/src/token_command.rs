@@ -65,8 +65,8 @@ Example:
 const SIGN_HELP: &str = "\
 jws-token sign --table TABLE.bin --header HEADER.json --payload FILE [--out TOKEN.txt] [--room BYTES]: signs a token
 
-The header chooses the key, by its kid. Header and payload go into the token byte for byte, with a newline at their end if there
-is one.
+The header names the key by its kid; without kid it is refused with 12. Header and payload go into the token byte for byte, with
+a newline at their end if there is one.
 
   --table TABLE.bin       the key table; `jws-table build` makes one
   --header HEADER.json    the header, or - for standard input
@@ -121,9 +121,9 @@ refuses it with 1, 3, 4, 5, 7 or 8.
 Exit status: 0 shown, 1 refused (5, 7 or 8; of a token also 1, 3 or 4), 2 wrong arguments or a file that can't be read.
 
 Example:
-  $ printf '{\"alg\":\"HS256\",\"fmt\":2}' | jws-token members -
+  $ printf '{\"alg\":\"HS256\",\"kid\":\"cellar 2\"}' | jws-token members -
   member 0: \"alg\" at 2..5, string \"HS256\" at 8..13
-  member 1: \"fmt\" at 16..19, number 2 at 21..22
+  member 1: \"kid\" at 16..19, string \"cellar 2\" at 22..30
 ";
 
 /// The whole table of no keys.
@@ -240,7 +240,7 @@ fn header_of(token: &[u8]) -> Result<Vec<u8>, Refusal> {
         .map(Refusal::from);
     match refusal {
         None | Some(Refusal::WrongKind | Refusal::Critical | Refusal::WrongAlg | Refusal::NoKey) => {
-            encoding::header_of(token).map_err(|_| Refusal::NotBase64url)
+            encoding::header_segment(token).map_err(|_| Refusal::NotBase64url)
         }
         Some(refusal) => Err(refusal),
     }

@@ -100,7 +100,7 @@ fn built_shown_and_checked() {
         keys_seen += keys.len();
         unnamed_seen += warned(&built).lines().count();
     }
-    println!("{TABLES} tables, {keys_seen} keys, {unnamed_seen} that no header names");
+    println!("{TABLES} tables, {keys_seen} keys, {unnamed_seen} that no header can name");
     assert!(keys_seen > TABLES && unnamed_seen > TABLES / 10);
 }
 
@@ -597,7 +597,7 @@ fn warned(table: &[u8]) -> String {
     given_away + &unnamed("table.bin", table)
 }
 
-/// The warnings of keys that no header names. Of an id that has bytes of a secret nothing is said here.
+/// The warnings of keys that no header can name. Of an id that has bytes of a secret nothing is said here.
 fn unnamed(name: &str, table: &[u8]) -> String {
     let shared = shared(table);
     let mut said = String::new();
@@ -612,7 +612,7 @@ fn unnamed(name: &str, table: &[u8]) -> String {
 
 fn unnamed_key(name: &str, k: usize, at: &str) -> String {
     format!(
-        "{name}: warning: key {k}'s id ({at}) isn't UTF-8, and kid is text: no header names this key, so nothing is signed or \
+        "{name}: warning: key {k}'s id ({at}) isn't UTF-8, and kid is text: no header can name this key, so nothing is signed or \
          accepted by it. Give it an id that is text and build the table anew.\n"
     )
 }

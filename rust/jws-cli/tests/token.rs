@@ -56,7 +56,7 @@ fn verify(folder: &Folder, table: &str, token: &[u8], more: &[&str]) -> Ran {
 }
 
 #[test]
-fn published_token() {
+fn token_that_names_its_key() {
     let folder = folder("a1");
     let token = published("token.txt");
     let signed = sign(&folder, "table.bin", HEADER, PAYLOAD, &[]);
@@ -318,7 +318,7 @@ fn members_in_words() {
 
     let help = folder.run(TOKEN, &["members", "--help"]);
     for line in folder
-        .run_on(TOKEN, &["members", "-"], br#"{"alg":"HS256","fmt":2}"#)
+        .run_on(TOKEN, &["members", "-"], br#"{"alg":"HS256","kid":"cellar 2"}"#)
         .done()
         .lines()
     {

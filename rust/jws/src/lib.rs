@@ -18,12 +18,12 @@
 //! let record = jws::verify(&token[..length], table, &mut header, &mut buffer)?;
 //! assert_eq!(record.payload(&buffer), b"setpoint 21.5");
 //!
-//! let header = br#"{"alg":"HS256","fmt":2}"#;
-//! let fmt = jws::member(header, 1)?;
+//! let header = br#"{"alg":"HS256","kid":"cellar 2","crit":["fmt"],"fmt":2}"#;
+//! let fmt = jws::member(header, 3)?;
 //! assert_eq!(fmt.kind, Kind::Number);
 //! assert_eq!(header[fmt.name], *b"fmt");
 //! assert_eq!(header[fmt.value], *b"2");
-//! assert_eq!(jws::member(header, 2), Err(Refusal::NoSuchMember));
+//! assert_eq!(jws::member(header, 4), Err(Refusal::NoSuchMember));
 //! # Ok::<(), Refusal>(())
 //! ```
 

@@ -103,12 +103,12 @@ fn found(answer: u8, words: [u64; MEMBER_WORDS]) -> Result<Member, Refusal> {
 /// ```
 /// use jws::{Kind, Refusal};
 ///
-/// let header = br#"{"alg": "HS256", "x": [ ]}"#;
-/// let member = jws::member(header, 1)?;
+/// let header = br#"{"alg": "HS256", "kid": "k", "x": [ ]}"#;
+/// let member = jws::member(header, 2)?;
 /// assert_eq!(member.kind, Kind::Array);
-/// assert_eq!((member.name, member.value), (18..19, 22..25));
+/// assert_eq!((member.name, member.value), (30..31, 34..37));
 ///
-/// assert_eq!(jws::member(header, 2), Err(Refusal::NoSuchMember));
+/// assert_eq!(jws::member(header, 3), Err(Refusal::NoSuchMember));
 /// assert_eq!(jws::member(br#"{"a":1,"\u0061":2}"#, 0), Err(Refusal::NameTwice));
 /// # Ok::<(), Refusal>(())
 /// ```

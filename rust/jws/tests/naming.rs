@@ -1,5 +1,5 @@
 //! Only `kid` finds a key: tables of 0, 1, 2 and 32 keys, and headers that name one of them, another one or none, in many ways. A token is
-//! signed with the named key's secret or, where none is named, with some key's: only the rule can refuse it then.
+//! signed with the named key's secret or, where none is named, with some key's: a verifier that falls back to a key would accept it.
 
 mod common;
 
@@ -20,13 +20,13 @@ const SEED: u64 = 81;
 const SIZES: [usize; 4] = [0, 1, 2, 32];
 /// The answers to a header that is read; where no key can be found they are 9 to 12.
 const ANSWERS: [usize; 7] = [0, 9, 10, 11, 12, 13, 14];
-/// No character is written as an escape.
+/// Only what has to be an escape is written as one.
 const PLAIN: usize = usize::MAX;
 
 /// Names that aren't `kid`, values that it may not have, and members that give a key elsewhere.
 const SIMILAR: [&str; 7] = ["Kid", "KID", "kid ", "ki", "kidd", "k\0id", "kid\0"];
 const WRONG: [&str; 5] = ["null", "0", "true", "[\"k\"]", "{}"];
-const ELSEWHERE: [&str; 3] = ["jku", "jwk", "x5t"];
+const ELSEWHERE: [&str; 5] = ["jku", "jwk", "x5u", "x5t", "x5c"];
 
 /// The id of some key, or the text nearest to it where it isn't UTF-8.
 fn some_id(rng: &mut Rng, keys: &[Key]) -> String {
@@ -36,16 +36,18 @@ fn some_id(rng: &mut Rng, keys: &[Key]) -> String {
     }
 }
 
-/// A text beside an id, and how it differs.
+/// A text beside an id, and how it was made; at times it is the id itself.
 fn beside(rng: &mut Rng, id: &str) -> (&'static str, String) {
-    let other_table = valid_of(rng, 1);
     match rng.below(5) {
         0 => ("empty", String::new()),
         1 if id == id.to_lowercase() => ("other case", id.to_uppercase()),
         1 => ("other case", id.to_lowercase()),
         2 => ("prefix", id.chars().take(id.chars().count() - 1).collect()),
         3 => ("longer", format!("{id}{}", rng.pick(&["a", " ", "\0", id]))),
-        _ => ("other table", some_id(rng, &parse(&other_table).unwrap())),
+        _ => {
+            let table = valid_of(rng, 1);
+            ("other table", some_id(rng, &parse(&table).unwrap()))
+        }
     }
 }
 

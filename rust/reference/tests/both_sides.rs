@@ -99,7 +99,7 @@ fn program(token: &[u8], table: &[u8]) -> String {
 }
 
 #[test]
-fn first_example() {
+fn examples_of_the_program() {
     assert_eq!(program(A1_NAMED, A1_TABLE), "accepted key=0 fmt=1 payload=70");
     assert_eq!(program(A1_TOKEN, A1_TABLE), "refused 12");
     assert_eq!(program(&[A1_NAMED, b"\n"].concat(), A1_TABLE), "refused 4");

@@ -3,8 +3,9 @@
 //!
 //!     node_calls FOLDER COUNT
 //!
-//! - `calls.bin` has the published tokens, then COUNT generated calls each of the verifier, the signer and the member
-//!   reader in turn, then calls with words wider than 32 bits; `expected.bin` has their outcomes;
+//! - `calls.bin` has the published tokens and one that names the key of RFC 7515 A.1, then COUNT generated calls each of
+//!   the verifier, the signer and the member reader in turn, then calls with words wider than 32 bits; `expected.bin` has
+//!   their outcomes;
 //! - `figures.bin` has the calls whose instructions and stack are measured, `figures.txt` a line for each that names
 //!   it, and `figures_expected.bin` their outcomes.
 //!
@@ -24,7 +25,7 @@ use call::{Call, Function, Outcome};
 use common::{by_answer, deepest_headers, token_of, Calls, GARBAGE, NO_CALLS};
 use jws::ffi::RECORD_WORDS;
 use jws::{HEADER_MAX, PAYLOAD_MAX, TOKEN_MAX};
-use published::{named, nameless, Published, A1_TABLE};
+use published::{named, nameless, SignedToken, A1_TABLE};
 
 /// The functions that refuse, with the answers that they give.
 const ANSWERS: [(Function, &[usize]); 3] = [
@@ -83,7 +84,7 @@ fn write(folder: &Path, name: &str, bytes: &[u8]) {
 
 /// A token that names its key: accepted with exact and with ample buffers, refused with another signature, and signed
 /// again.
-fn add_named(series: &mut Series, published: &Published) {
+fn add_named(series: &mut Series, published: &SignedToken) {
     let (token, table) = (&published.token[..], &published.table[..]);
     let (header, payload, forged) = (published.header(), published.payload(), published.forged());
     for [header_len, payload_len] in [[header.len(), payload.len()], [HEADER_MAX, PAYLOAD_MAX]] {
@@ -102,7 +103,7 @@ fn add_named(series: &mut Series, published: &Published) {
 }
 
 /// A token that names no key: refused with 12, whatever its signature is, and not signed.
-fn add_nameless(series: &mut Series, published: &Published) {
+fn add_nameless(series: &mut Series, published: &SignedToken) {
     let (header, payload, table) = (published.header(), published.payload(), &published.table[..]);
     for token in [&published.token, &published.forged()] {
         for [header_len, payload_len] in [[header.len(), payload.len()], [HEADER_MAX, PAYLOAD_MAX]] {
@@ -186,7 +187,7 @@ fn timed() -> Vec<Figure> {
 /// A token with its signature changed in one character, at each place, to one of the same sort: how many instructions a refusal takes may
 /// not tell where.
 fn forged() -> Vec<Figure> {
-    let [Published { token: good, .. }, ..] = named();
+    let [SignedToken { token: good, .. }, ..] = named();
     (good.len() - 43..good.len())
         .map(|at| {
             let mut token = good.clone();

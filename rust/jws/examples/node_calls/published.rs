@@ -14,14 +14,14 @@ const A1_TOKEN: &[u8] = include_bytes!("../../../../crates/verify_token/data/nam
 const UNENCODED_TOKEN: &[u8] = b"eyJhbGciOiJIUzI1NiJ9.JC4wMg.5mvfOroL-g7HyqJoozehmsaqmvTYGEq5jTI1gVvoEoQ";
 
 /// A rightly signed token, and a table of its key.
-pub struct Published {
+pub struct SignedToken {
     pub token: Vec<u8>,
     pub table: Vec<u8>,
 }
 
-impl Published {
+impl SignedToken {
     fn of(token: &[u8], table: &[u8]) -> Self {
-        Published {
+        SignedToken {
             token: token.to_vec(),
             table: table.to_vec(),
         }
@@ -49,14 +49,14 @@ impl Published {
 }
 
 /// The payload of RFC 7515 A.1 and the token of RFC 7520 section 4.4, whose headers name their keys.
-pub fn named() -> [Published; 2] {
+pub fn named() -> [SignedToken; 2] {
     [
-        Published::of(A1_NAMED, A1_TABLE),
-        Published::of(rfc7520::TOKEN, &rfc7520_table()),
+        SignedToken::of(A1_NAMED, A1_TABLE),
+        SignedToken::of(rfc7520::TOKEN, &rfc7520_table()),
     ]
 }
 
 /// The tokens of RFC 7515 A.1 and RFC 7797 section 4, whose headers name no key.
-pub fn nameless() -> [Published; 2] {
-    [A1_TOKEN, UNENCODED_TOKEN].map(|token| Published::of(token, A1_TABLE))
+pub fn nameless() -> [SignedToken; 2] {
+    [A1_TOKEN, UNENCODED_TOKEN].map(|token| SignedToken::of(token, A1_TABLE))
 }
