@@ -1,6 +1,6 @@
 -- The definitions, run on readings: each answer from 9 to 14, and what is chosen where none is given.
 use mathlib.Core.Path.{_≡_, refl}
-use mathlib.Core.Bool.{Bool, true}
+use mathlib.Core.Bool.{true}
 use mathlib.Core.List.{List, [], _∷_}
 use Prim.Native.Nat.{ℕ}
 use Prim.Native.String.{String}
@@ -48,14 +48,14 @@ none1 = record { id = ascii "cellar 3"; secret = []; algorithms = 0; formats = 0
 abbrev pub Answers : Members → List Key → ℕ → Type 0
 Answers ms ks n = first (choosingTests (factsOf ms ks) noFacts ks) ≡ n
 
-abbrev pub Gives : Members → List Key → ℕ → Bool → ℕ → Type 0
-Gives ms ks i kid f = Answers ms ks 0 × (choiceBy (factsOf ms ks) nowhere nowhere ≡ record { «key_index» = i; «kid_present» = kid; format = f; typ = nowhere; cty = nowhere })
+abbrev pub Gives : Members → List Key → ℕ → ℕ → Type 0
+Gives ms ks i f = Answers ms ks 0 × (choiceBy (factsOf ms ks) nowhere nowhere ≡ record { «key_index» = i; «kid_present» = true; format = f; typ = nowhere; cty = nowhere })
 
 pub examples :
-    Gives ("alg" ∶ text "HS256" then "kid" ∶ text "cellar 1" then mnil) (hs1 ∷ []) 0 true 1
-    × Gives ("kid" ∶ text "cellar 2" then "crit" ∶ array ("fmt" ∷ []) then "fmt" ∶ number "8" then "alg" ∶ text "HS256" then mnil) (hs1 ∷ hs28 ∷ []) 1 true 8
+    Gives ("alg" ∶ text "HS256" then "kid" ∶ text "cellar 1" then mnil) (hs1 ∷ []) 0 1
+    × Gives ("kid" ∶ text "cellar 2" then "crit" ∶ array ("fmt" ∷ []) then "fmt" ∶ number "8" then "alg" ∶ text "HS256" then mnil) (hs1 ∷ hs28 ∷ []) 1 8
     -- `jku` chooses nothing
-    × Gives ("jku" ∶ text "cellar 2" then "alg" ∶ text "HS256" then "kid" ∶ text "cellar 1" then mnil) (hs1 ∷ hs28 ∷ []) 0 true 1
+    × Gives ("jku" ∶ text "cellar 2" then "alg" ∶ text "HS256" then "kid" ∶ text "cellar 1" then mnil) (hs1 ∷ hs28 ∷ []) 0 1
     -- `alg` is missing, or a known member is of the wrong kind
     × Answers mnil (hs1 ∷ []) 9
     × Answers ("alg" ∶ trueV then mnil) (hs1 ∷ []) 9

@@ -3,7 +3,7 @@ use mathlib.Core.Path.{_≡_, refl, sym, ap, _∙_}
 use mathlib.Core.Bool.{true, false}
 use mathlib.Core.List.{List, []}
 use Prim.Native.Nat.{ℕ}
-use Rattle.common.specs.First.{first, holds}
+use Rattle.common.specs.First.{first, condition, holds}
 use Rattle.common.specs.FirstLaws.{none-stands, not-on}
 use Rattle.common.specs.Decided.{when-false, decided}
 use Rattle.json_grammar_rules.specs.Value.{among, names, plainMembers}
@@ -18,7 +18,7 @@ use Rattle.jose_rules.specs.declared.Choice.{Choice}
 use Rattle.jose_rules.specs.Names.{kid}
 use Rattle.jose_rules.specs.Members.{string, Says}
 use Rattle.jose_rules.specs.Rules.{Terms}
-use Rattle.jose_rules.specs.Header.{NamesKey, NamesNoKey, HeaderChooses}
+use Rattle.jose_rules.specs.Header.{joseRules, NamesKey, NamesNoKey, HeaderChooses}
 use Rattle.jose_rules.specs.OnlyOne.{only-is}
 use Rattle.jose_rules.specs.ChoosingLaws.{decides-among, unique-names, only-said}
 use Rattle.jose_rules.specs.HeaderTests.{located}
@@ -45,6 +45,10 @@ module _ {h : List ℕ} {q : Terms} {c : Choice} (w : HeaderChooses h q c) where
   -- .. and it isn't a header that names none.
   pub names-some : NamesNoKey h → ⊥
   names-some (t, e, none) = let s = w .chooses .key-is .1 in none (s .0) (rw (one-reading t (w .derivation) (e ∙ sym (w .derives))) (s .1))
+
+-- rule 12 holds of a header that names none, whichever keys there are
+pub nameless-rule : {h : List ℕ} (q : Terms) → NamesNoKey h → condition (joseRules h q) 12
+nameless-rule q (t, e, none) = (t, e, λ i c. none (c .1 .0) (c .1 .1))
 
 -- how it is seen that a header names none
 pub nameless-read : (h : List ℕ) → first (grammarTests deepest h) ≡ 0 → among kid (names (plainMembers (located h))) ≡ false → NamesNoKey h

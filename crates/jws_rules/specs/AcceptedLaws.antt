@@ -44,6 +44,13 @@ pub made-passes : (q : VerifyCall) {h p m : List ℕ} → Wellformed (q .table) 
 made-passes q table x hb pb mb short =
     before-5 q short table (x .two) (encoded (x .segment1) hb) (encoded (x .segment2) pb) (encoded (x .segment3) mb)
 
+-- .. those before 7 too where its header is short and both fit, ..
+pub made-passes-7 : (q : VerifyCall) {h p m : List ℕ} → Wellformed (q .table) → Parts (q .token) h p m → Bytes h → Bytes p → Bytes m → length (q .token) ≤ tokenMost
+    → length h ≤ longest → length h ≤ q .headerRoom → length p ≤ q .payloadRoom → NoneOf (earlier (verifying q) 7)
+made-passes-7 q table x hb pb mb short header-short header-fits payload-fits =
+    let e = ap length (x .header) in
+    before-7 q (before-6 q (made-passes q table x hb pb mb short) (omega arith)) (omega arith) (omega (arith, ap length (x .payload)))
+
 -- the header's rules among those of verifying
 abbrev headerRulesOf : VerifyCall → List Rule
 headerRulesOf q = joseRules (headerOf (q .token)) (termsOf (q .table))
@@ -61,10 +68,7 @@ accepted-if q h p r a =
     let details : recordOf h p (r .choice) ≡ r = rw (← a .header-length, ← a .payload-length) in
     verify-good q
     (none-append (earlier (verifying q) 7) (headerRulesOf q ++ signatureRules q)
-    (before-7 q
-    (before-6 q (made-passes q (a .table) x hb pb mb (a .short)) (omega (arith, a .header-short, ap length (x .header))))
-    (omega (arith, a .header-fits, ap length (x .header)))
-    (omega (arith, a .payload-fits, ap length (x .payload))))
+    (made-passes-7 q (a .table) x hb pb mb (a .short) (a .header-short) (a .header-fits) (a .payload-fits))
     (none-append (headerRulesOf q) (signatureRules q)
     (subst (λ (y : List ℕ). NoneOf (joseRules y (termsOf (q .table)))) (sym (x .header)) (header-rules (a .header)))
     ((λ k. let c = header-chooses-one (headerOf (q .token)) (termsOf (q .table)) d (k .0) (k .1) in k .2 (x .signature ∙ cc)) also tt)))

@@ -35,7 +35,7 @@ use Rattle.jws_rules.specs.Outcomes.{VerifyOutcome, recordOf, accepted, 
 use Rattle.jws_rules.specs.Rules.{verifying, signing, Accepted}
 use Rattle.jws_rules.specs.Tests.{verified, verifyAnswer, signed, signAnswer}
 use Rattle.jws_rules.specs.RuleLaws.{before-5, before-6, before-7}
-use Rattle.jws_rules.specs.AcceptedLaws.{made-passes}
+use Rattle.jws_rules.specs.AcceptedLaws.{made-passes, made-passes-7}
 use Rattle.jws_rules.specs.Promises.{verify-first, sign-first, accepted-gives, accepted-again}
 use Rattle.jws_rules.specs.Sides.{token-refused, header-refused, header-room-refused, payload-room-refused, signature-refused, sign-header-refused, sign-length-refused, sign-room-refused, empty-token, two-periods}
 
@@ -152,38 +152,37 @@ module _ (h T : List ℕ) (short : length h ≤ 40) (good : Wellformed T) (compu
   its-bytes : Bytes h
   its-bytes = let w = stands .0 in rw (← w .1) (derived-bytes (w .0))
 
-  no-key-verified : (s p : List ℕ) → Bytes p → length p ≤ 12000 → (hr pr : ℕ) → length h ≤ hr → length p ≤ pr → verifyAnswer (verifyOf (tokenOf s h p) T hr pr) ≡ 12
-  no-key-verified s p pb k hr pr fits fits′ =
+  verify-gets-12 : (s p : List ℕ) → Bytes p → length p ≤ 12000 → (hr pr : ℕ) → length h ≤ hr → length p ≤ pr → verifyAnswer (verifyOf (tokenOf s h p) T hr pr) ≡ 12
+  verify-gets-12 s p pb k hr pr fits fits′ =
       let q = verifyOf (tokenOf s h p) T hr pr in
       let mb = mac-bytes s h p in
       let x = parts {t = q .token} refl its-bytes pb mb in
       let long : length (q .token) ≤ 16384 = omega (arith, length-token s h p, length-encode h ∙ encoded-length (length h), length-encode p ∙ encoded-length (length p)) in
-      let l = ap length (x .header) in
       verify-first q 12 refl .1 (
         rw (x .header) (stands .0),
         none-append (earlier (verifying q) 7) (earlier (joseRules (headerOf (q .token)) (termsOf T)) 12)
-            (before-7 q (before-6 q (made-passes q good x its-bytes pb mb long) (omega arith)) (omega arith) (omega (arith, ap length (x .payload))))
+            (made-passes-7 q good x its-bytes pb mb long (omega arith) fits fits′)
             (rw (x .header) (stands .1)),
       )
 
-  no-key-signed : (p : List ℕ) (room : ℕ) → signAnswer (signOf h p T room) ≡ 12
-  no-key-signed p room =
+  sign-gets-12 : (p : List ℕ) (room : ℕ) → signAnswer (signOf h p T room) ≡ 12
+  sign-gets-12 p room =
       sign-first (signOf h p T room) 12 refl .1 (
         stands .0,
         none-append (openingRules h T) (earlier (joseRules h (termsOf T)) 12) ((λ x. x good) also (λ x. omega arith) also tt) (stands .1),
       )
 
 -- a table of one key with the same secret and another id, `B`
-abbrev pub other : List ℕ
-other = head 1 1 53 ++ (entry 20 1 21 32 1 0 ++ (66 ∷ secret))
+abbrev pub other-table : List ℕ
+other-table = head 1 1 53 ++ (entry 20 1 21 32 1 0 ++ (66 ∷ secret))
 
-other-good : Wellformed other
+other-table-good : Wellformed other-table
 unfolding badTable keys below listed same
-other-good = wellformed other refl
+other-table-good = wellformed other-table refl
 
-other-key : keys other ≡ single 66
+other-table-keys : keys other-table ≡ single 66
 unfolding keys below listed
-other-key = refl
+other-table-keys = refl
 
 -- ROWS OF ONE CLAIM
 
@@ -218,7 +217,7 @@ pub record Inhabited : Type 0 where
   pub verify-nameless : (p : List ℕ) → Bytes p → length p ≤ 12000 → verifyAnswer (taking (tokenOf secret nameless p) 15 12000) ≡ 12
   pub sign-nameless : (p : List ℕ) (room : ℕ) → signAnswer (signOf nameless p table room) ≡ 12
   -- a token that the table accepts, by a table of the same secret under another id
-  pub verify-other-id : (p : List ℕ) → Bytes p → length p ≤ 12000 → verifyAnswer (verifyOf (token 0 p) other 25 12000) ≡ 12
+  pub verify-other-id : (p : List ℕ) → Bytes p → length p ≤ 12000 → verifyAnswer (verifyOf (token 0 p) other-table 25 12000) ≡ 12
 
 -- its segments and their bytes are computed
 without-signature : verifyAnswer (taking (encode (header 0) dot encode [] dot []) 25 0) ≡ 15
@@ -256,7 +255,7 @@ inhabited =
       periods-alone = two-periods table table-good 25 0;
       no-signature = without-signature;
       names-none = names-no-key;
-      verify-nameless = λ p b k. no-key-verified nameless table (omega arith) table-good (rw (examples .its-key) (no-key .0)) secret p b k 15 12000 (omega arith) k;
-      sign-nameless = no-key-signed nameless table (omega arith) table-good (rw (examples .its-key) (no-key .0));
-      verify-other-id = λ p b k. no-key-verified (header 0) other (omega arith) other-good (rw other-key (no-key .1)) secret p b k 25 12000 (omega arith) k;
+      verify-nameless = λ p b k. verify-gets-12 nameless table (omega arith) table-good (rw (examples .its-key) (no-key .0)) secret p b k 15 12000 (omega arith) k;
+      sign-nameless = sign-gets-12 nameless table (omega arith) table-good (rw (examples .its-key) (no-key .0));
+      verify-other-id = λ p b k. verify-gets-12 (header 0) other-table (omega arith) other-table-good (rw other-table-keys (no-key .1)) secret p b k 25 12000 (omega arith) k;
     }

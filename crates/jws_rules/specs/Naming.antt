@@ -6,8 +6,9 @@ use lib.ListN.{length}
 use Rattle.common.specs.First.{NoneOf, earlier}
 use Rattle.keytable_rules.specs.Key.{key}
 use Rattle.keytable_rules.specs.Table.{keys}
+use Rattle.jose_rules.specs.Rules.{termsOf}
 use Rattle.jose_rules.specs.Header.{NamesKey, NamesNoKey}
-use Rattle.jose_rules.specs.NamingLaws.{kid-there, names-its-key, names-one, names-some}
+use Rattle.jose_rules.specs.NamingLaws.{kid-there, names-its-key, names-one, names-some, nameless-rule}
 use Rattle.jws_rules.specs.Calls.{VerifyCall, SignCall}
 use Rattle.jws_rules.specs.Token.{tokenOf, headerOf}
 use Rattle.jws_rules.specs.Outcomes.{VerifyOutcome, signedAs}
@@ -27,10 +28,10 @@ nameless-unsigned q n e = names-some (sign-header q e .1) n
 
 -- .. the answer is 12, unless a rule before it refuses.
 pub nameless-12 : (q : VerifyCall) → NamesNoKey (headerOf (q .token)) → NoneOf (earlier (verifying q) 12) → verifyAnswer q ≡ 12
-nameless-12 q (t, e, lacks) n = verify-first q 12 refl .1 ((t, e, λ i c. lacks (c .1 .0) (c .1 .1)), n)
+nameless-12 q w n = verify-first q 12 refl .1 (nameless-rule (termsOf (q .table)) w, n)
 
 pub sign-nameless-12 : (q : SignCall) → NamesNoKey (q .header) → NoneOf (earlier (signing q) 12) → signAnswer q ≡ 12
-sign-nameless-12 q (t, e, lacks) n = sign-first q 12 refl .1 ((t, e, λ i c. lacks (c .1 .0) (c .1 .1)), n)
+sign-nameless-12 q w n = sign-first q 12 refl .1 (nameless-rule (termsOf (q .table)) w, n)
 
 -- WHAT IS ACCEPTED names the key whose index the record has, and the record says that `kid` is there.
 pub accepted-names : (q : VerifyCall) → verifyAnswer q ≡ 0

@@ -32,8 +32,7 @@ use Rattle.jws_rules.specs.TokenLaws.{length-token, mac-bytes, parts}
 use Rattle.jws_rules.specs.Outcomes.{VerifyOutcome, recordOf, accepted}
 use Rattle.jws_rules.specs.Rules.{verifying, Accepted}
 use Rattle.jws_rules.specs.Tests.{tokenChoice, verified, verifyAnswer}
-use Rattle.jws_rules.specs.RuleLaws.{before-6, before-7}
-use Rattle.jws_rules.specs.AcceptedLaws.{made-passes}
+use Rattle.jws_rules.specs.AcceptedLaws.{made-passes-7}
 use Rattle.jws_rules.specs.Promises.{accepted-gives}
 use Rattle.jws_rules.specs.Sides.{differing-refused}
 
@@ -119,11 +118,10 @@ module _ (p : List ℕ) (bytes : Bytes p) (short : length p ≤ 12000) (hr pr : 
       let q = verifyOf (encode header dot encode p dot encode s) table hr pr in
       let x = parts {t = q .token} refl (header-bytes chooses) bytes sb in
       let long : length (q .token) ≤ 16384 = omega (arith, length-dot (encode header) (encode p dot encode s), length-dot (encode p) (encode s), length-encode s ∙ ap encodedLength n, finished) in
-      let h = ap length (x .header) in
       let choice : tokenChoice q ≡ its-choice = ap (λ (y : List ℕ). headerChoice y (keys table)) (x .header) ∙ read-as .1 in
       differing-refused q
       (none-append (earlier (verifying q) 7) (joseRules (headerOf (q .token)) (termsOf table))
-      (before-7 q (before-6 q (made-passes q table-good x (header-bytes chooses) bytes sb long) (omega arith)) (omega arith) (omega (arith, ap length (x .payload))))
+      (made-passes-7 q table-good x (header-bytes chooses) bytes sb long (omega arith) fits fits′)
       (rw (x .header) (header-rules chooses)))
       (λ e. differs (sym (x .signature) ∙ e ∙ ap₂ HMACSHA256 (ap (secretOf table) choice) (ap₂ _dot_ (x .segment1) (x .segment2))))
 
