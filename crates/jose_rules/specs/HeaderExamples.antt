@@ -8,7 +8,7 @@ use Rattle.common.specs.Ascii.{ascii}
 use Rattle.common.specs.First.{first}
 use Rattle.common.specs.Ranges.{isDigit}
 use Rattle.common.specs.Same.{same}
-use Rattle.json_grammar_rules.specs.Bytes.{within, isWs, isDigit19, isE, isHex, allHex, hex4}
+use Rattle.json_grammar_rules.specs.Bytes.{within, isWs, isDigit19, isE, isHex, hexVal, allHex, hex4, isHigh, isLow}
 use Rattle.json_grammar_rules.specs.Value.{among, repeated, names, twice, plain, plainMembers}
 use Rattle.json_grammar_rules.specs.Places.{kindOf, pos, margin, placed}
 use Rattle.json_grammar_rules.specs.Reader.{skip, isUnescaped1, charLead, escapeLeadOf, readChar, readChars, valueLead, pastNumber, readValue, read}
@@ -50,6 +50,28 @@ unfolding missingOrWrong criticalBroken lacking headerChoice rawText choiceBy fa
     find allowsHS256 allowsFormat ascii alg kid typ cty crit fmt HS256 utf8 octets same among repeated names twice plain plainMembers
     read readValue readChars readChar charLead valueLead skip isUnescaped1 pastNumber within isDigit isDigit19 isE isWs
 second-key = (refl, refl)
+
+-- EVERY KNOWN NAME AND TEXT BY ESCAPES, their digits small, and capital: the key whose id is the UTF-8 of U+00E9, and format 3; one letter
+-- of a name made capital is another name, and `alg` is missing
+abbrev accented : List Key
+accented = record { id = 0xC3 ∷ 0xA9 ∷ []; secret = replicate 32 9; algorithms = 1; formats = 4 } ∷ []
+
+abbrev by-small : List ℕ
+by-small = ascii "{\"a\\u006cg\":\"\\u0048S256\",\"\\u006bid\":\"\\u00e9\",\"crit\":[\"f\\u006dt\"],\"f\\u006dt\":3}"
+
+abbrev by-capital : List ℕ
+by-capital = ascii "{\"a\\u006Cg\":\"\\u0048S256\",\"\\u006Bid\":\"\\u00E9\",\"crit\":[\"f\\u006Dt\"],\"f\\u006Dt\":3}"
+
+abbrev another-name : List ℕ
+another-name = ascii "{\"a\\u004cg\":\"HS256\",\"kid\":\"\\u00e9\"}"
+
+pub by-escapes : (first (joseTests by-small (record { keys = accented })) ≡ 0) × (headerChoice by-small accented ≡ record { «key_index» = 0; «kid_present» = true; format = 3; typ = nowhere; cty = nowhere })
+    × (first (joseTests by-capital (record { keys = accented })) ≡ 0) × (headerChoice by-capital accented ≡ headerChoice by-small accented)
+    × (first (joseTests another-name (record { keys = accented })) ≡ 9)
+unfolding missingOrWrong criticalBroken lacking headerChoice rawText choiceBy factsOf namesFrom algFact kidFact textFact critFact fmtFact lookup stringsIn integerOf allDigits after
+    find allowsHS256 allowsFormat ascii alg kid typ cty crit fmt HS256 utf8 octets same among repeated names twice plain plainMembers
+    read readValue readChars readChar charLead escapeLeadOf valueLead skip isUnescaped1 pastNumber within isDigit isDigit19 isE isWs isHex hexVal allHex hex4 isHigh isLow
+by-escapes = (refl, refl, refl, refl, refl)
 
 -- ONE KEY, whose id is one byte; it allows HS256 and formats 1 and 3
 abbrev pub single : ℕ → List Key

@@ -246,11 +246,14 @@ fn escapes() {
     row(b"another escape: {\"x\":\"\\a\"}");
     row(b"hexadecimal digits: {\"x\":\"\\u09AF\"}");
     row(b"small hexadecimal digits: {\"x\":\"\\u09af\"}");
+    row(b"a letter that is no digit: {\"x\":\"\\u09ag\"}");
+    row(b"a capital U: {\"x\":\"\\U09AF\"}");
 }
 
 // Surrogates that are escaped.
 fn surrogates() {
     row(b"a surrogate pair: {\"x\":\"\\uD834\\uDD1E\"}");
+    row(b"a surrogate pair, small and capital: {\"x\":\"\\ud834\\uDd1e\"}");
     row(b"a high surrogate alone: {\"x\":\"\\uD834\"}");
     row(b"a high surrogate twice: {\"x\":\"\\uD834\\uD834\"}");
     row(b"a low surrogate alone: {\"x\":\"\\uDD1E\"}");
@@ -291,6 +294,7 @@ fn names() {
     members(b"one name twice", b"{\"x\":1,\"x\":2}");
     row(b"names of different case: {\"x\":1,\"X\":2}");
     row(b"one name twice, by an escape: {\"\\uD834\\uDD1E\":1,\"\xF0\x9D\x84\x9E\":2}");
+    row(b"one name twice, by small and capital digits: {\"\\u00e9\":1,\"\\u00E9\":2}");
     row(b"the empty name twice: {\"\":1,\"\":2}");
     row(b"a name twice, then no end: {\"x\":1,\"x\":2");
 }

@@ -1,33 +1,22 @@
 -- Laws for the functions on classes of bytes.
-use mathlib.Core.Path.{_≡_, _∙_}
-use mathlib.Core.Bool.{true, false}
-use Prim.Native.Nat.{ℕ, _≤_, _<_, _-_}
+use mathlib.Core.Path.{_≡_, sym, _∙_}
+use mathlib.Core.Bool.{Bool, true, false, _||_, false≢true}
+use Prim.Native.Nat.{ℕ, _≤_, _<_, _+_, _-_, _%_}
 use native.Mathlib.Omega.{arith}
 use Rattle.json_grammar_rules.specs.Bytes.{within, isDigit, isHex, hexVal}
-use Rattle.json_grammar_rules.specs.Reader.{isUnescaped1}
-use Rattle.json_grammar_rules.specs.ByteLaws.{within-true}
+use Rattle.json_grammar_rules.specs.ByteLaws.{within-true, within-is, hex-cases}
 
-pub unescaped-1 : (b : ℕ) → within 0x20 0x21 b ≡ true → true ≡ isUnescaped1 b
-unfolding isUnescaped1
-unescaped-1 b e = rw e
+-- three tests in turn: what each of them answers for all
+pub by-first : (a b c : Bool) → a ≡ true → true ≡ a || b || c
+by-first a b c e = rw e
 
-pub unescaped-2 : (b : ℕ) → within 0x20 0x21 b ≡ false → within 0x23 0x5B b ≡ true → true ≡ isUnescaped1 b
-unfolding isUnescaped1
-unescaped-2 b e f = rw (e, f)
+pub by-second : (a b c : Bool) → a ≡ false → b ≡ true → true ≡ a || b || c
+by-second a b c e f = rw (e, f)
 
-pub unescaped-3 : (b : ℕ) → within 0x20 0x21 b ≡ false → within 0x23 0x5B b ≡ false → within 0x5D 0x7F b ≡ isUnescaped1 b
-unfolding isUnescaped1
-unescaped-3 b e f = rw (e, f)
+pub by-third : (a b c : Bool) → a ≡ false → b ≡ false → c ≡ a || b || c
+by-third a b c e f = rw (e, f)
 
-pub hex-1 : (b : ℕ) → within 0x30 0x39 b ≡ true → true ≡ isHex b
-unfolding isHex isDigit
-hex-1 b e = rw e
-
-pub hex-2 : (b : ℕ) → within 0x30 0x39 b ≡ false → within 0x41 0x46 b ≡ isHex b
-unfolding isHex isDigit
-hex-2 b e = rw e
-
--- the value of a decimal digit, and of another
+-- the value of a decimal digit, and of a letter
 pub digit-low : (b : ℕ) → within 0x30 0x39 b ≡ true → 0x30 ≤ b
 digit-low b e = within-true 0x30 0x39 b e .0
 
@@ -35,12 +24,9 @@ pub digit-val : (b r : ℕ) → within 0x30 0x39 b ≡ true → r ≡ b - 0x30 �
 unfolding hexVal isDigit
 digit-val b r h e = (rw h e, omega (arith, within-true 0x30 0x39 b h))
 
-letter : (b : ℕ) → isHex b ≡ true → within 0x30 0x39 b ≡ false → (0x41 ≤ b) × (b ≤ 0x46)
-letter b k h = within-true 0x41 0x46 b (hex-2 b h ∙ k)
-
-pub letter-low : (b : ℕ) → isHex b ≡ true → within 0x30 0x39 b ≡ false → 0x37 ≤ b
-letter-low b k h = omega (arith, letter b k h)
-
-pub letter-val : (b r : ℕ) → isHex b ≡ true → within 0x30 0x39 b ≡ false → r ≡ b - 0x37 → (r ≡ hexVal b) × (r < 16)
-unfolding hexVal isDigit
-letter-val b r k h e = (rw h e, omega (arith, letter b k h))
+pub letter-val : (b r : ℕ) → isHex b ≡ true → within 0x30 0x39 b ≡ false → r ≡ b % 32 + 9 → (r ≡ hexVal b) × (r < 16)
+letter-val b r k h e =
+    hex-cases b k
+    (λ l u v. absurd (false≢true (sym h ∙ within-is 0x30 0x39 b l u)))
+    (λ l u v. (omega arith, omega arith))
+    (λ l u v. (omega arith, omega arith))

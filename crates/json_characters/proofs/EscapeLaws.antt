@@ -52,6 +52,10 @@ four-digits (a ∷ b ∷ c ∷ d ∷ s) = go (isHex a) (isHex b) (isHex c) (isHe
 pub hex-digits : (s : List ℕ) (at : ℕ) (r : Scan) → ScanAt (readHexes 4 0) s at r → ScanAt readHex s at r
 hex-digits s at r h = scan-same readHex (readHexes 4 0) s at r four-digits h
 
+pub hex-short : (s : List ℕ) (at : ℕ) → length s - at < 4 → ScanAt readHex s at Wrong
+unfolding ScanAt
+hex-short s at h = four-digits (drop at s) ∙ short-digits 4 0 (drop at s) (rw (length-drop at s) h)
+
 -- SURROGATES
 
 abbrev lowHalf : ℕ → List ℕ → Got ℕ

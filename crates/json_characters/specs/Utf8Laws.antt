@@ -1,18 +1,18 @@
 -- UTF-8: it leaves ASCII as it is and loses nothing; the code points of a JSON string are those that have octets.
 use mathlib.Core.Path.{_≡_, refl, sym, ap, ap₂, _∙_, subst}
-use mathlib.Core.Bool.{Bool, true, false, cond, _&&_, _||_, false≢true}
+use mathlib.Core.Bool.{Bool, true, false, cond, _&&_, false≢true}
 use mathlib.Core.List.{List, [], _∷_, _++_}
 use Prim.Native.Nat.{ℕ, _+_, _-_, _*_, _/_, _≤_, _<_}
 use native.Mathlib.Omega.{arith}
 use native.Mathlib.Nat.{div-div-eq-div-mul}
 use lib.Dec.{leb}
 use borrow.Author.Tests.{le-leb, lt-leb, leb-true, leb-false}
-use Rattle.json_grammar_rules.specs.Bytes.{within, isDigit, isHex, hexVal, allHex, hex4, isTail, code2, code3, code4, isHigh, isLow, isSurrogate, pairCode}
+use Rattle.json_grammar_rules.specs.Bytes.{within, isHex, hexVal, allHex, hex4, isTail, code2, code3, code4, isHigh, isLow, isSurrogate, pairCode}
 use Rattle.json_grammar_rules.specs.Grammar.{Utf8, utf8-1, utf8-2, utf8-E0, utf8-E1, utf8-ED, utf8-EE, utf8-F0, utf8-F1, utf8-F4, codeUtf8, Char, unescaped, short, unicode, surrogates, Short, shortCode, codeOf, Chars, cnil, ccons, codesOf}
 use Rattle.json_grammar_rules.specs.Grammar.{quote, reverse-solidus, solidus, backspace, form-feed, line-feed, carriage-return, tab}
 use Rattle.json_grammar_rules.specs.Reader.{Got, bad, got, readChar}
 use Rattle.common.specs.Truth.{both, neither}
-use Rattle.json_grammar_rules.specs.ByteLaws.{within-true, within-is, by-test}
+use Rattle.json_grammar_rules.specs.ByteLaws.{within-true, within-is, by-test, hex-cases}
 use Rattle.json_grammar_rules.specs.ReaderLaws.{no-bad}
 use Rattle.json_grammar_rules.specs.CharLaws.{complete-char, char-sound}
 use Rattle.json_characters.specs.Utf8.{tail, octets, utf8, Scalar, low, high, Each, none, more}
@@ -92,12 +92,7 @@ utf8-injective (more {x} {xs} h hs) (more {x = y} {xs = ys} k ks) e =
 -- THE CODE POINTS OF A STRING
 
 hex-small : (b : ℕ) → isHex b ≡ true → hexVal b < 16
-unfolding isHex hexVal isDigit
-hex-small b h = go (within 0x30 0x39 b) refl h
-  where
-    go : (t : Bool) → within 0x30 0x39 b ≡ t → t || within 0x41 0x46 b ≡ true → cond t (b - 0x30) (b - 0x37) < 16
-    go true e h = omega (arith, within-true 0x30 0x39 b e)
-    go false e h = omega (arith, within-true 0x41 0x46 b h)
+hex-small b h = hex-cases b h (λ l u v. omega arith) (λ l u v. omega arith) (λ l u v. omega arith)
 
 hex4-small : (a b c d : ℕ) → allHex a b c d ≡ true → hex4 a b c d ≤ 0xFFFF
 unfolding allHex hex4

@@ -40,16 +40,20 @@ pub fn is_unescaped1(b: u8) -> bool
     between(0x5D, 0x7F, b)
 }
 
-// The digits of an escape: 0-9 and A-F, no small letters.
+// The digits of an escape: 0-9, A-F and a-f.
 pub(crate) fn is_hex(b: u8) -> bool
     ensures { λ r. ⌜ r ≡ isHex b ⌝ }
 {
     if between(0x30, 0x39, b) {
         return true;
     }
-    between(0x41, 0x46, b)
+    if between(0x41, 0x46, b) {
+        return true;
+    }
+    between(0x61, 0x66, b)
 }
 
+// The value of such a digit. The low five bits of a letter are the same in both cases: 1 of A and a.
 pub(crate) fn hex_val(b: u8) -> u32
     requires { ⌜ isHex b ≡ true ⌝ }
     ensures { λ r. ⌜ (r ≡ hexVal b) × (r < 16) ⌝ }
@@ -57,5 +61,5 @@ pub(crate) fn hex_val(b: u8) -> u32
     if between(0x30, 0x39, b) {
         return wide(b - 0x30);
     }
-    wide(b - 0x37)
+    wide(b % 32 + 9)
 }

@@ -16,19 +16,18 @@ fn hex(s: &[u8], from: usize) -> Scan
     requires { ⌜ from ≤ length (now s) ⌝ }
     ensures { λ r. ⌜ ScanAt readHex (now (s .entry)) from r ⌝ }
 {
+    if s.len() - from < 4 {
+        return Scan::Wrong;
+    }
     let mut at = from;
     let mut left: usize = 4;
     let mut code: u32 = 0;
     while left > 0 {
-        if at < s.len() {
-            let b = s[at];
-            if is_hex(b) {
-                code = code * 16 + hex_val(b);
-                at += 1;
-                left -= 1;
-            } else {
-                return Scan::Wrong;
-            }
+        let b = s[at];
+        if is_hex(b) {
+            code = code * 16 + hex_val(b);
+            at += 1;
+            left -= 1;
         } else {
             return Scan::Wrong;
         }

@@ -1,12 +1,12 @@
 -- Laws of the classes of bytes: what a test says of a byte, and case by case.
 use mathlib.Core.Path.{_≡_, refl, sym, subst}
 use mathlib.Core.Bool.{Bool, true, false, cond, _||_}
-use Prim.Native.Nat.{ℕ, _≤_}
+use Prim.Native.Nat.{ℕ, _-_, _≤_}
 use native.Mathlib.Omega.{arith}
 use lib.Dec.{leb, eqb}
 use borrow.Author.Tests.{leb-true, eqb-true}
 use Rattle.common.specs.Truth.{both}
-use Rattle.json_grammar_rules.specs.Bytes.{within, isWs, isE, isSign}
+use Rattle.json_grammar_rules.specs.Bytes.{within, isDigit, isWs, isE, isSign, isHex, hexVal}
 pub use Rattle.common.specs.RangeLaws.{within-is, from-low, below, above}
 
 -- TESTS
@@ -49,3 +49,13 @@ e-cases P p q b h = either _ _ h (is P b 0x65 p) (is P b 0x45 q)
 pub sign-cases : (P : ℕ → Type 0) → P 0x2D → P 0x2B → (b : ℕ) → isSign b ≡ true → P b
 unfolding isSign
 sign-cases P p q b h = either _ _ h (is P b 0x2D p) (is P b 0x2B q)
+
+-- a decimal digit, a capital letter or a small one, each with its value
+pub hex-cases : {C : Type 0} (b : ℕ) → isHex b ≡ true
+    → (0x30 ≤ b → b ≤ 0x39 → hexVal b ≡ b - 0x30 → C) → (0x41 ≤ b → b ≤ 0x46 → hexVal b ≡ b - 0x37 → C) → (0x61 ≤ b → b ≤ 0x66 → hexVal b ≡ b - 0x57 → C) → C
+unfolding isHex hexVal isDigit
+hex-cases b h digit capital small =
+    either _ _ h
+    (λ h₁. either _ _ h₁ (λ e. let p = within-true _ _ b e in digit (p .0) (p .1) (rw e))
+    (λ e. let p = within-true _ _ b e in capital (p .0) (p .1) (rw (above 0x30 0x39 b (omega (arith, p)), e))))
+    (λ e. let p = within-true _ _ b e in small (omega (arith, p)) (omega (arith, p)) (rw (above 0x30 0x39 b (omega (arith, p)), above 0x41 0x46 b (omega (arith, p)))))

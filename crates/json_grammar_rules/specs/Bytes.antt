@@ -23,12 +23,12 @@ isSign b = eqb b 0x2D || eqb b 0x2B
 unfoldable pub isUnescaped : ℕ → Bool
 isUnescaped x = within 0x20 0x21 x || within 0x23 0x5B x || within 0x5D 0x10FFFF x
 
--- HEXDIG of a `\u` escape. House rule: the digits 0-9 and A-F
+-- RFC 8259 section 7: HEXDIG of a `\u` escape, which is 0-9, A-F or a-f, and its value
 unfoldable pub isHex : ℕ → Bool
-isHex b = isDigit b || within 0x41 0x46 b
+isHex b = isDigit b || within 0x41 0x46 b || within 0x61 0x66 b
 
 unfoldable pub hexVal : ℕ → ℕ
-hexVal b = cond (isDigit b) (b - 0x30) (b - 0x37)
+hexVal b = cond (isDigit b) (b - 0x30) (cond (within 0x41 0x46 b) (b - 0x37) (b - 0x57))
 
 -- 4HEXDIG, and the number that the four digits write
 unfoldable pub allHex : ℕ → ℕ → ℕ → ℕ → Bool

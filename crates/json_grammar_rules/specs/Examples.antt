@@ -167,12 +167,26 @@ short-escapes : ReadsString (ascii "\\\"\\\\\\/\\b\\f\\n\\r\\t") (0x22 ∷ 0x5C 
 unfolding reading header
 short-escapes = (refl, refl, refl)
 
--- the digits of an escape are 0-9 and A-F; a high surrogate is followed directly by a low one
-unicode-escapes : ReadsString (ascii "\\u00E9\\u0000") (0xE9 ∷ 0 ∷ []) × ReadsString (ascii "\\uD834\\uDD1E") (0x1D11E ∷ [])
-    × BadString (ascii "\\u00e9") × BadString (ascii "\\u00E") × BadString (ascii "\\uD834") × BadString (ascii "\\uD834x\\uDD1E")
-    × BadString (ascii "\\uD834\\uD834") × BadString (ascii "\\uDD1E\\uD834")
+-- the digits of an escape: each of them, capital and small, also side by side; and four of them
+hex-digits : ReadsString (ascii "\\u0123\\u4567\\u89AB\\uCDEF") (0x123 ∷ 0x4567 ∷ 0x89AB ∷ 0xCDEF ∷ [])
+    × ReadsString (ascii "\\u89ab\\ucdef\\uaBcD\\u00e9") (0x89AB ∷ 0xCDEF ∷ 0xABCD ∷ 0xE9 ∷ [])
+    × BadString (ascii "\\u00E") × BadString (ascii "\\u00e") × BadString (ascii "\\U00E9")
 unfolding reading header
-unicode-escapes = (refl, refl, refl, refl, refl, refl, refl, refl)
+hex-digits = (refl, refl, refl, refl, refl)
+
+-- the bytes on both sides of 0-9, A-F and a-f are no digits
+no-hex-digits : BadString (ascii "\\u000/") × BadString (ascii "\\u000:") × BadString (ascii "\\u000@") × BadString (ascii "\\u000G")
+    × BadString (ascii "\\u000`") × BadString (ascii "\\u000g")
+unfolding reading header
+no-hex-digits = (refl, refl, refl, refl, refl, refl)
+
+-- a high surrogate is followed directly by a low one, whichever letters spell them
+unicode-escapes : ReadsString (ascii "\\u0000") (0 ∷ []) × ReadsString (ascii "\\uD834\\uDD1E") (0x1D11E ∷ [])
+    × ReadsString (ascii "\\uD834\\udd1e") (0x1D11E ∷ []) × ReadsString (ascii "\\ud834\\uDd1E") (0x1D11E ∷ [])
+    × BadString (ascii "\\uD834") × BadString (ascii "\\uD834x\\uDD1E") × BadString (ascii "\\uD834\\UDD1E")
+    × BadString (ascii "\\uD834\\ud834") × BadString (ascii "\\udd1e\\uD834") × BadString (ascii "\\udd1e")
+unfolding reading header
+unicode-escapes = (refl, refl, refl, refl, refl, refl, refl, refl, refl, refl)
 
 -- both ends of a first half, D800 to DBFF, and of a second, DC00 to DFFF; D7FF and E000 are no halves
 surrogate-pairs : ReadsString (ascii "\\uD7FF") (0xD7FF ∷ []) × ReadsString (ascii "\\uE000") (0xE000 ∷ [])
@@ -215,6 +229,12 @@ names-twice : (doubled (header (ascii "[{\"a\":1,\"b\":2,\"a\":1}]")) ≡ true) 
     × (doubled (ascii "{\"a\":{\"a\":1},\"A\":1}") ≡ false)
 unfolding doubled header
 names-twice = (refl, refl, refl)
+
+-- one name by small and by capital digits, and by an escape and its UTF-8; but a letter's own case is another letter
+spelled-twice : (doubled (header (ascii "{\"\\u00e9\":1,\"\\u00E9\":1}")) ≡ true) × (doubled (ascii "{\"\\ud834\\uDD1E\":1,\"\\uD834\\udd1e\":1}") ≡ true)
+    × (doubled (ascii "{\"\\u00e9\":1,\"" ++ 0xC3 ∷ 0xA9 ∷ ascii "\":1}") ≡ true) × (doubled (ascii "{\"\\u006a\":1,\"\\u004a\":1}") ≡ false)
+unfolding doubled header
+spelled-twice = (refl, refl, refl, refl)
 
 kinds : List ℕ
 kinds = ascii " {\"a\" : \"\" , \"b\":-1, \"c\":true,\"d\": false ,\"e\":null,\"f\": [ 1 , 2 ] ,\"g\": { } } "

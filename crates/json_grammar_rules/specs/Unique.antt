@@ -10,8 +10,8 @@ use Rattle.json_grammar_rules.specs.Bytes.{isWs}
 use Rattle.json_grammar_rules.specs.Value.{Members, objectV, depth, LMembers, plainMembers}
 use Rattle.json_grammar_rules.specs.Grammar.{none, more, Ws, ObjectTree, object0, objectOf, Derivation, Derived, yieldMany, yieldToken, yieldObject, bytes, readingOf, depthOf, membersOf}
 use Rattle.json_grammar_rules.specs.Places.{member}
-use Rattle.json_grammar_rules.specs.Reader.{Got, bad, got, read}
-use Rattle.json_grammar_rules.specs.ReaderLaws.{no-bad}
+use Rattle.json_grammar_rules.specs.Reader.{Got, bad, got, over, read}
+use Rattle.json_grammar_rules.specs.ReaderLaws.{no-bad, over-inv}
 use Rattle.json_grammar_rules.specs.Readings.{plain-of}
 use Rattle.json_grammar_rules.specs.Complete.{complete}
 use Rattle.json_grammar_rules.specs.Sound.{derived, sound}
@@ -34,6 +34,13 @@ one-depth t u e = ap (λ (ms : Members). depth (objectV ms)) (one-reading t u e)
 
 pub same-member : (t u : Derivation) → bytes t ≡ bytes u → (k : ℕ) → member (bytes t) k (membersOf t) ≡ member (bytes u) k (membersOf u)
 same-member t u e k = ap₂ (λ (s : List ℕ) (ms : LMembers). member s k ms) e (unique t u e)
+
+-- every derivation of a text reads as the reader reads it
+pub reads-as : (d : ℕ) (s : List ℕ) (ms : Members) (r : List ℕ) → over plainMembers (read d s) ≡ got ms r → (t : Derivation) → bytes t ≡ s → readingOf t ≡ ms
+reads-as d s ms r e t p =
+    let i = over-inv plainMembers (read d s) ms r e in
+    let u = sound d s (i .0) r (i .1) in
+    one-reading t (u .0) (p ∙ sym (u .1)) ∙ sym (plain-of (u .0)) ∙ ap plainMembers (u .2) ∙ i .2
 
 -- DERIVATIONS ARE NOT UNIQUE: the space in `{ }` can be given to either brace, and both derive the same bytes
 unfoldable space : Ws

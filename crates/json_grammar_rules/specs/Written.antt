@@ -23,7 +23,7 @@ use Rattle.json_grammar_rules.specs.Grammar.{yieldMinus, yieldInt, yield
 use Rattle.json_grammar_rules.specs.Grammar.{yieldValue, yieldObject, yieldMember, yieldMembers, yieldArray, yieldElements, bytes}
 use Rattle.json_grammar_rules.specs.Reader.{upTo}
 use Rattle.common.specs.Truth.{both}
-use Rattle.json_grammar_rules.specs.ByteLaws.{either, within-true, white-cases, e-cases, sign-cases}
+use Rattle.json_grammar_rules.specs.ByteLaws.{within-true, white-cases, e-cases, sign-cases, hex-cases}
 
 -- f puts bytes before what follows, k of them or more
 pub record Writes (k : ℕ) (f : List ℕ → List ℕ) : Type 0 where
@@ -118,8 +118,7 @@ short-small carriage-return = omega arith
 short-small tab = omega arith
 
 hex : (b : ℕ) → isHex b ≡ true → Writes 1 (λ r. b ∷ r)
-unfolding isHex isDigit
-hex b h = either _ _ h (λ e. range 0x30 0x39 b e (omega arith)) (λ e. range 0x41 0x46 b e (omega arith))
+hex b h = byte b (hex-cases b h (λ l u v. omega arith) (λ l u v. omega arith) (λ l u v. omega arith))
 
 -- \uXXXX
 unicode-escape : (a b c d : ℕ) → allHex a b c d ≡ true → Writes 1 (λ r. 0x5C ∷ 0x75 ∷ a ∷ b ∷ c ∷ d ∷ r)

@@ -1,6 +1,6 @@
 -- The specification's starred rows on headers, as rows of one theorem; and both sides of the length.
 use mathlib.Core.Path.{_≡_, refl, sym, _∙_}
-use mathlib.Core.List.{List}
+use mathlib.Core.List.{List, [], _∷_}
 use Prim.Native.Nat.{ℕ, suc, _≤_, _<_}
 use native.Mathlib.Omega.{arith}
 use lib.ListN.{length}
@@ -8,11 +8,11 @@ use Prim.Native.String.{String}
 use Rattle.common.specs.Same.{same}
 use Rattle.common.specs.Ascii.{ascii}
 use Rattle.json_grammar_rules.specs.Bytes.{within, isWs, isDigit, isDigit19, isE, isSign, isHex, hexVal, allHex, hex4, isTail, code2, code3, code4, isHigh, isLow, isSurrogate, pairCode}
-use Rattle.json_grammar_rules.specs.Value.{among, repeated, names, twice, plain}
+use Rattle.json_grammar_rules.specs.Value.{among, repeated, names, twice, plain, plainMembers, stringV, mcons, mnil}
 use Rattle.json_grammar_rules.specs.Grammar.{Derivation, bytes, readingOf}
 use Rattle.json_grammar_rules.specs.Places.{kindOf, pos, margin, placed, member}
 use Rattle.json_grammar_rules.specs.Reader.{read, readValue, readChars, readChar, charLead, escapeLeadOf, isUnescaped1, pastNumber, word, valueLead, skip}
-use Rattle.json_grammar_rules.specs.Unique.{one-reading}
+use Rattle.json_grammar_rules.specs.Unique.{one-reading, reads-as}
 use Rattle.json_rules.specs.declared.Member.{Member}
 use Rattle.json_rules.specs.declared.Member.the-variants.{Refused, Array}
 use Rattle.json_rules.specs.declared.Member.the-variants.{String as Text}
@@ -24,7 +24,7 @@ use Rattle.json_rules.specs.Promises.{header-first}
 unfoldable pub answers : String → ℕ → Member
 unfolding read readValue readChars readChar charLead escapeLeadOf isUnescaped1 pastNumber word valueLead skip
     within isWs isDigit isDigit19 isE isSign isHex hexVal allHex hex4 isTail code2 code3 code4 isHigh isLow isSurrogate pairCode
-    same among repeated names twice plain kindOf pos margin placed member headerTests checked answerFor unlessRefused memberOf ascii
+    same among repeated names twice plain plainMembers kindOf pos margin placed member headerTests checked answerFor unlessRefused memberOf ascii
 answers h k = memberOf (ascii h) k
 
 pub rows :
@@ -44,6 +44,15 @@ pub rows :
     × ((k : ℕ) → answers "{\"x\":[[[[[[[[]]]]]]]]}" k ≡ Refused 7)
 unfolding answers
 rows = (refl, λ k. refl, λ k. refl, λ k. refl, λ k. refl, refl, refl, λ k. refl, λ t u p q. one-reading t u (p ∙ sym q), refl, λ k. refl)
+
+-- the digits of escapes are small or capital: a name spelled both ways stands twice; U+00E9 and a pair are read
+pub spellings :
+    ((k : ℕ) → answers "{\"alg\":\"HS256\",\"\\u00e9\":1,\"\\u00E9\":1}" k ≡ Refused 8)
+    × (answers "{\"alg\":\"HS256\",\"x\":\"\\u00e9\\uD834\\udd1e\"}" 1 ≡ Text (place 16 17) (place 20 38))
+    × ((t : Derivation) → bytes t ≡ ascii "{\"alg\":\"HS256\",\"x\":\"\\u00e9\\uD834\\udd1e\"}"
+    → readingOf t ≡ mcons (ascii "alg") (stringV (ascii "HS256")) (mcons (ascii "x") (stringV (0xE9 ∷ 0x1D11E ∷ [])) mnil))
+unfolding answers
+spellings = (λ k. refl, refl, reads-as 8 _ _ _ refl)
 
 -- "headers of 1,024 bytes, [..] and of 1,025"
 module _ (h : List ℕ) where

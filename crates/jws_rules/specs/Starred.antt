@@ -10,13 +10,13 @@ use Rattle.common.specs.Same.{same}
 use Rattle.base64url_rules.specs.Base64url.{encode, decode, strict}
 use Rattle.base64url_rules.specs.Examples.{bytes as example, JC4wM, examples}
 use Rattle.json_grammar_rules.specs.Bytes.{within, isWs, isDigit, isDigit19, isE, isSign, isHex, allHex, hex4}
-use Rattle.json_grammar_rules.specs.Value.{among, repeated, names, twice, plain, plainMembers}
+use Rattle.json_grammar_rules.specs.Value.{among, repeated, names, twice, plain, plainMembers, stringV, mcons, mnil}
 use Rattle.json_grammar_rules.specs.Grammar.{Derivation, bytes, readingOf}
 use Rattle.json_grammar_rules.specs.Reader.{read, readValue, readChars, readChar, charLead, escapeLeadOf, isUnescaped1, pastNumber, word, valueLead, skip}
 use Rattle.json_rules.specs.Answers.{place}
 use Rattle.json_rules.specs.Tests.{lengthTest}
 use Rattle.json_rules.specs.declared.Member.the-variants.{Refused as RefusedMember, Array, String as Text}
-use Rattle.json_rules.specs.Rows.{answers, rows}
+use Rattle.json_rules.specs.Rows.{answers, rows, spellings}
 use Rattle.keytable_rules.specs.Key.{Key}
 use Rattle.decimal_rules.specs.Integer.{integerOf, allDigits, after}
 use Rattle.jose_rules.specs.declared.Decision.{Decision}
@@ -54,6 +54,12 @@ pub record Starred : Type 0 where
       (answers "{\"alg\":\"HS256\",\"x\":[ ]}" 0 ≡ Text (place 2 5) (place 8 13)) × (answers "{\"alg\":\"HS256\",\"x\":[ ]}" 1 ≡ Array (place 16 17) (place 19 22))
       × ((k : ℕ) → answers "{\"alg\":\"HS256\",\"x\":[ ]}" (suc (suc k)) ≡ RefusedMember 16)
   pub one-reading : (t u : Derivation) → bytes t ≡ ascii "{\"alg\":\"HS256\",\"x\":[ ]}" → bytes u ≡ ascii "{\"alg\":\"HS256\",\"x\":[ ]}" → readingOf t ≡ readingOf u
+  -- 8: a name by small and by capital digits
+  pub name-spelled-twice : (k : ℕ) → answers "{\"alg\":\"HS256\",\"\\u00e9\":1,\"\\u00E9\":1}" k ≡ RefusedMember 8
+  -- read: `x` is U+00E9 and U+1D11E
+  pub small-digits : (answers "{\"alg\":\"HS256\",\"x\":\"\\u00e9\\uD834\\udd1e\"}" 1 ≡ Text (place 16 17) (place 20 38))
+      × ((t : Derivation) → bytes t ≡ ascii "{\"alg\":\"HS256\",\"x\":\"\\u00e9\\uD834\\udd1e\"}"
+      → readingOf t ≡ mcons (ascii "alg") (stringV (ascii "HS256")) (mcons (ascii "x") (stringV (0xE9 ∷ 0x1D11E ∷ [])) mnil))
 
 pub starred : Starred
 unfolding HS256 missingOrWrong criticalBroken namesFrom algFact kidFact textFact critFact fmtFact factsOf lookup stringsIn integerOf allDigits after ascii alg kid typ cty crit fmt same among repeated names twice plain plainMembers
@@ -72,4 +78,6 @@ starred =
       format-exponent = λ ks. refl;
       white-space = (rows .5, rows .6, rows .7);
       one-reading = rows .8;
+      name-spelled-twice = spellings .0;
+      small-digits = (spellings .1, spellings .2);
     }
