@@ -23,10 +23,10 @@ HEADER_MAX = 1024
 DEPTH_MAX = 8
 KINDS = {"string": 1, "number": 2, "true": 3, "false": 4, "null": 5, "array": 6, "object": 7}
 
-# White space (RFC 8259 section 2) stands between tokens. Digits of \u are 0-9 and A-F only (specification).
+# White space (RFC 8259 section 2) stands between tokens. Digits of \u are capital or small (section 7).
 TOKEN = re.compile(
     rb"(?P<space>[ \t\n\r]+)"
-    rb'|(?P<string>"(?:[^"\\\x00-\x1f]|\\["\\/bfnrt]|\\u[0-9A-F]{4})*")'
+    rb'|(?P<string>"(?:[^"\\\x00-\x1f]|\\["\\/bfnrt]|\\u[0-9A-Fa-f]{4})*")'
     rb"|(?P<number>-?(?:0|[1-9][0-9]*)(?:\.[0-9]+)?(?:[eE][+-]?[0-9]+)?)"
     rb"|(?P<true>true)|(?P<false>false)|(?P<null>null)"
     rb"|(?P<punctuation>[{}\[\]:,])"
@@ -255,11 +255,6 @@ def has_lone_surrogate(value):
     return isinstance(value, str) and any(0xD800 <= ord(c) <= 0xDFFF for c in value)
 
 
-def has_lower_case_digit(text):
-    escapes = re.findall(r"\\(u....|.)", text, re.DOTALL)
-    return any(len(escape) == 5 and re.search("[a-f]", escape[1:]) for escape in escapes)
-
-
 def check_read(text, top):
     if reading(top) != loaded_reading(loads(text)):
         raise AssertionError("read otherwise by json.loads: %r" % text)
@@ -271,12 +266,7 @@ def check_refused(text):
         value = loads(text)
     except (ValueError, RecursionError):
         return
-    house_rule = (
-        not isinstance(value, Pairs)
-        or depth(value) > DEPTH_MAX
-        or has_lone_surrogate(value)
-        or has_lower_case_digit(text)
-    )
+    house_rule = not isinstance(value, Pairs) or depth(value) > DEPTH_MAX or has_lone_surrogate(value)
     if not house_rule:
         raise AssertionError("read by json.loads: %r" % text)
 

@@ -92,13 +92,25 @@ fn finish(rng: &mut Rng, mut members: Vec<(String, Json)>) -> Vec<u8> {
             let at = rng.below(header.len() + 1);
             bytes::insert(&mut header, at, odd);
         }
-        11 if rng.one_in(4) => {
+        11 => damage_escape(rng, &mut header),
+        12 if rng.one_in(4) => {
             let length = rng.below(1_030);
             header = rng.bytes(length);
         }
         _ => {}
     }
     header
+}
+
+/// Another byte for one of a `\u` escape's five after its backslash, if there is one.
+fn damage_escape(rng: &mut Rng, header: &mut [u8]) {
+    let escapes: Vec<usize> = (0..header.len().saturating_sub(5))
+        .filter(|&at| header[at..].starts_with(b"\\u"))
+        .collect();
+    if !escapes.is_empty() {
+        let at = rng.pick(&escapes) + rng.within(1..=5);
+        header[at] = rng.pick(b"/09:@AFGUZ[`afguz{dDeE");
+    }
 }
 
 /// White space after the header, or a long member, to about 1,024 bytes.
@@ -335,7 +347,8 @@ fn text(rng: &mut Rng) -> String {
         2 => char::from_u32(rng.within(0x80..=0x7FF) as u32).unwrap_or('?'),
         3 => char::from_u32(rng.within(0x800..=0xFFFF) as u32).unwrap_or('?'),
         4 => char::from_u32(rng.within(0x1_0000..=0x10_FFFF) as u32).unwrap_or('?'),
-        _ => char::from(b'a' + rng.below(6) as u8),
+        // j to o, 6A to 6F, which escapes spell in two ways
+        _ => char::from(b'j' + rng.below(6) as u8),
     };
     (0..count).map(character).collect()
 }
@@ -405,6 +418,10 @@ const ODD_VALUES: &[&[u8]] = &[
     b"{\"a\":}",
     b"{a:0}",
     b"{\"a\":0,\"\\u0061\":0}",
+    b"{\"\\u00e9\":0,\"\\u00E9\":0}",
+    b"{\"\\u00e9\":0,\"\xC3\xA9\":0}",
+    b"{\"\\ud834\\uDD1E\":0,\"\\uD834\\udd1e\":0}",
+    b"{\"\\u006a\":0,\"\\u004a\":0}",
     b"{\"a\":{\"a\":0}}",
     b"[{\"a\":0},{\"a\":0}]",
     b"\"",
@@ -412,6 +429,14 @@ const ODD_VALUES: &[&[u8]] = &[
     b"\"\\u00e9\"",
     b"\"\\u00E9\"",
     b"\"\\U00E9\"",
+    b"\"\\u00eg\"",
+    b"\"\\u00G9\"",
+    b"\"\\uaBcD\"",
+    b"\"\\ud834\"",
+    b"\"\\udd1e\"",
+    b"\"\\ud834\\udd1e\"",
+    b"\"\\ud834\\ud834\"",
+    b"\"\\udbff\\uDfFf\"",
     b"\"\\u12\"",
     b"\"\\x41\"",
     b"\"\\v\"",
@@ -496,18 +521,22 @@ const ODD_TEXTS: &[&[u8]] = &[
     b"{\"a\":0,\"a\":0}",
 ];
 
-/// How a header is written: white space after one place in `space`, an escape for one character in `escape`.
+/// How a header is written: white space after one place in `space`, an escape for one character in `escape`, and of the letters among
+/// the digits of `\u` one in `small` as a small one.
 struct Style {
     space: usize,
     escape: usize,
-    lower_case_hex: bool,
+    small: usize,
 }
+
+/// All small, both, and all capital.
+const SMALL: [usize; 3] = [1, 2, usize::MAX];
 
 fn write_header(rng: &mut Rng, members: Vec<(String, Json)>) -> Vec<u8> {
     let style = Style {
         space: rng.pick(&[2, 10, 1_000_000, 1_000_000]),
         escape: rng.pick(&[2, 10, 1_000_000, 1_000_000]),
-        lower_case_hex: rng.one_in(60),
+        small: rng.pick(&SMALL),
     };
     let mut out = Vec::new();
     space(rng, &style, &mut out);
@@ -558,12 +587,12 @@ fn write_list<T>(
     out.push(brackets[1]);
 }
 
-/// A text as a JSON string, an escape for one character in `escape`; its hexadecimal digits are capital ones.
+/// A text as a JSON string, an escape for one character in `escape`.
 pub fn quoted(rng: &mut Rng, text: &str, escape: usize) -> String {
     let style = Style {
         space: usize::MAX,
         escape,
-        lower_case_hex: false,
+        small: rng.pick(&SMALL),
     };
     let mut out = Vec::new();
     write_string(rng, &style, text, &mut out);
@@ -599,12 +628,14 @@ fn write_escape(rng: &mut Rng, style: &Style, c: char, out: &mut Vec<u8>) {
         Some(letter) if rng.one_in(2) => out.extend([b'\\', letter]),
         _ => {
             for unit in c.encode_utf16(&mut [0; 2]) {
-                let written = if style.lower_case_hex {
-                    format!("\\u{unit:04x}")
-                } else {
-                    format!("\\u{unit:04X}")
-                };
-                out.extend(written.as_bytes());
+                out.extend(b"\\u");
+                for digit in format!("{unit:04X}").bytes() {
+                    out.push(if rng.one_in(style.small) {
+                        digit.to_ascii_lowercase()
+                    } else {
+                        digit
+                    });
+                }
             }
         }
     }

@@ -87,6 +87,36 @@ fn every_answer_and_kind_of_the_member_reader() {
     }
 }
 
+/// Whether a header has a small letter, and whether it has a capital one, among the digits of its `\u` escapes.
+fn cases_of_digits(header: &[u8]) -> [bool; 2] {
+    let escapes = header.windows(6).filter(|part| {
+        let digits = &part[2..];
+        part.starts_with(b"\\u") && digits.iter().all(u8::is_ascii_hexdigit)
+    });
+    let digits: Vec<u8> = escapes.flat_map(|part| part[2..].to_vec()).collect();
+    [
+        digits.iter().any(u8::is_ascii_lowercase),
+        digits.iter().any(u8::is_ascii_uppercase),
+    ]
+}
+
+/// Many headers have escapes with small letters, with capital ones and with both, whether they are read or not.
+#[test]
+fn escapes_in_both_cases() {
+    let mut tally = std::collections::BTreeMap::<(u8, [bool; 2]), usize>::new();
+    for header in case_generator::headers(SEED).take(20_000) {
+        let answer = read(&header).err().unwrap_or(0);
+        *tally.entry((answer, cases_of_digits(&header))).or_default() += 1;
+    }
+    println!("answer, [small, capital]: {tally:?}");
+    for (answer, least) in [(0, 500), (7, 200), (8, 50)] {
+        for cases in [[true, false], [false, true], [true, true]] {
+            let count = tally.get(&(answer, cases)).copied().unwrap_or(0);
+            assert!(count >= least, "answer {answer}, {cases:?}: {count} times");
+        }
+    }
+}
+
 #[test]
 fn headers_of_all_lengths_around_the_limit() {
     let mut lengths = [0; 1_100];

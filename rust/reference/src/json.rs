@@ -347,13 +347,14 @@ impl<'h> Reader<'h> {
         char::from_u32(0x1_0000 + ((unit - 0xD800) << 10) + (low - 0xDC00))
     }
 
-    /// Specification: four digits 0-9 or A-F.
+    /// RFC 8259 section 7: four digits, the letters among them capital or small.
     fn four_digits(&mut self) -> Option<u32> {
         let mut unit = 0;
         for _ in 0..4 {
             let digit = match self.take()? {
                 digit @ b'0'..=b'9' => digit - b'0',
                 digit @ b'A'..=b'F' => digit - b'A' + 10,
+                digit @ b'a'..=b'f' => digit - b'a' + 10,
                 _ => return None,
             };
             unit = unit << 4 | u32::from(digit);
@@ -518,6 +519,10 @@ mod tests {
         let members = read(header).unwrap();
         assert_eq!(members[0].name, "\"\\/\u{8}\u{C}\n\r\tA\u{E9}\u{1D11E}\0");
         assert_eq!(members[0].value, Value::String("abc".into()));
+        let small = br#"{"\u00e9\ud834\uDd1e\uaBcD":"\u000a"}"#;
+        let members = read(small).unwrap();
+        assert_eq!(members[0].name, "\u{E9}\u{1D11E}\u{ABCD}");
+        assert_eq!(members[0].value, Value::String("\n".into()));
         for good in [
             r"\uFFFF",
             r"\uD7FF",
@@ -526,14 +531,22 @@ mod tests {
             r"\uDBFF\uDFFF",
             r"\\u12",
             r"\\uD834",
+            r"\ue000",
+            r"\uaBcD",
+            r"\ud800\udc00",
+            r"\uDBFF\udfff",
+            r"\udBfF\uDfFf",
         ] {
             assert_eq!(value_answer(format!("\"{good}\"")), 0, "{good}");
         }
         for bad in [
-            r"\u00e9",
-            r"\uabcd",
-            r"\uABCd",
             r"\U0041",
+            r"\u000/",
+            r"\u000:",
+            r"\u000@",
+            r"\u000G",
+            r"\u000`",
+            r"\u000g",
             r"\u041",
             r"\u",
             r"\u 041",
@@ -557,8 +570,12 @@ mod tests {
             r"\uDD1E\uD834",
             r"\uD834 \uDD1E",
             r"\uD834\\uDD1E",
-            r"\uD834\uDD1e",
             r"\uD834\uDD1",
+            r"\ud834",
+            r"\udd1e",
+            r"\ud834\uD834",
+            r"\uD834\Udd1e",
+            r"\ud834\ue000",
         ] {
             assert_eq!(value_answer(format!("\"{bad}\"")), 7, "{bad}");
         }
@@ -632,11 +649,15 @@ mod tests {
             r#"{"x":{"y":{"a":0,"a":1}}}"#,
             "{\"\u{1D11E}\":0,\"\\uD834\\uDD1E\":1}",
             "{\"\\n\":0,\"\\u000A\":1}",
+            r#"{"\u00e9":0,"\u00E9":1}"#,
+            "{\"\u{E9}\":0,\"\\u00e9\":1}",
+            r#"{"x":[{"\ud834\uDD1E":0,"\uD834\udd1e":1}]}"#,
         ] {
             assert_eq!(answer(twice.as_bytes()), 8, "{twice}");
         }
         for once in [
             r#"{"a":0,"A":1}"#,
+            r#"{"\u006a":0,"\u004a":1}"#,
             r#"{"a":{"a":0},"b":{"a":{"a":1}}}"#,
             r#"{"x":[{"a":0},{"a":0}]}"#,
             r#"{"a":0,"aa":0,"":0}"#,

@@ -140,6 +140,7 @@ fn the_mac_covers_the_tokens_own_bytes() {
         r#"{"alg":"HS\u00325\u0036","kid":"k"}"#,
         r#"{"\u0061lg":"HS256","kid":"k"}"#,
         r#"{"alg":"HS256","\u006Bid":"\u006B"}"#,
+        r#"{"a\u006cg":"HS256","\u006bid":"\u006b"}"#,
         r#"{"x":1.0,"kid":"k","alg":"HS256"}"#,
     ] {
         assert_eq!(header_answer(header), 0, "{header}");

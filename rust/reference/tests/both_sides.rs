@@ -33,9 +33,14 @@ fn headers() {
         (r#"{"alg":"HS256","crit":["fmt"],"fmt":1e0}"#, 9),
         (r#"{"alg":"HS256","x":[ ]}"#, 12),
         (r#"{"alg":"HS256","kid":"k","x":[ ]}"#, 0),
+        (r#"{"alg":"HS256","\u00e9":1,"\u00E9":1}"#, 8),
+        (r#"{"alg":"HS256","kid":"k","x":"\u00e9\uD834\udd1e"}"#, 0),
     ] {
         assert_eq!(header_answer(header), answer, "{header}");
     }
+    let members = json::read(br#"{"alg":"HS256","x":"\u00e9\uD834\udd1e"}"#).unwrap();
+    assert_eq!(members[1].value, Value::String("\u{E9}\u{1D11E}".into()));
+    assert_eq!(members[1].words(), [1, 16, 17, 20, 38]);
     let members = json::read(br#"{"alg":"HS256","x":[ ]}"#).unwrap();
     assert_eq!(members[1].value, Value::Array(vec![]));
     assert_eq!(members[1].words(), [6, 16, 17, 19, 22]);

@@ -44,6 +44,9 @@ fn p03_a_key_is_found_by_its_name() {
     for (header, answer) in [
         (r#"{"alg":"HS256","kid":"k"}"#, 0),
         (r#"{"alg":"HS256","k\u0069d":"\u006B"}"#, 0),
+        (r#"{"alg":"HS256","\u006bid":"\u006b"}"#, 0),
+        (r#"{"alg":"HS256","\u004bid":"\u006b"}"#, 12),
+        (r#"{"alg":"HS256","kid":"\u004b"}"#, 12),
         (r#"{"alg":"HS256","kid":""}"#, 12),
         (r#"{"alg":"HS256","kid":"K"}"#, 12),
         (r#"{"alg":"HS256","kid":"kk"}"#, 12),
@@ -235,6 +238,9 @@ fn p11_crit() {
     for (members, expected) in [
         (r#""crit":["fmt"],"fmt":1"#, 0),
         (r#""crit":["f\u006Dt"],"f\u006Dt":1"#, 0),
+        (r#""crit":["f\u006dt"],"f\u006Dt":1"#, 0),
+        (r#""crit":["f\u006dt","f\u006Dt"],"fmt":1"#, 10),
+        (r#""crit":["f\u004dt"],"fmt":1"#, 10),
         (r#""crit":[ "fmt" ],"fmt":1"#, 0),
         (r#""crit":[]"#, 10),
         (r#""crit":[],"fmt":1"#, 10),
