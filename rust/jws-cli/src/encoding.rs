@@ -238,6 +238,7 @@ mod tests {
             ("\\u006b\\u006B", "kk"),
             ("\\\"\\\\\\/\\b\\f\\n\\r\\t", "\"\\/\u{8}\u{C}\n\r\t"),
             ("\\uD834\\uDD1Eé", "\u{1D11E}é"),
+            ("\\u00e9\\ud834\\uDd1e", "é\u{1D11E}"),
         ] {
             assert_eq!(resolved(raw.as_bytes()).as_deref(), Some(text), "{raw}");
         }
@@ -247,6 +248,8 @@ mod tests {
             "\\u",
             "\\u006",
             "\\u+069",
+            "\\u00g9",
+            "\\U00E9",
             "\\u00 9",
             "\\uD834",
             "\\uDD1E\\uD834",

@@ -40,11 +40,12 @@ pub fn sentence(refusal: Refusal) -> &'static str {
         }
         Refusal::NotDerived => {
             "The header isn't one JSON object by the strict grammar: look for a comma too many, a byte order mark, \
-             bytes that aren't UTF-8, small letters in a \\u escape, or arrays and objects more than 8 deep."
+             bytes that aren't UTF-8, a \\u without four hexadecimal digits or with half of a surrogate pair, or \
+             arrays and objects more than 8 deep."
         }
         Refusal::NameTwice => {
             "An object in the header, or nested in it, has two members of one name: look at the names with their \
-             escapes resolved, so that al\\u0067 is alg."
+             escapes resolved, so that al\\u0067 is alg, and \\u00e9 and \\u00E9 are both é."
         }
         Refusal::WrongKind => {
             "`alg` must be there and a string; `kid`, `typ` and `cty`, if there, are strings, `crit` an array of \
@@ -118,9 +119,18 @@ fn name_detail(header: &[u8]) -> String {
     match jws::members(header).ok().and_then(|mut members| members.find(is_kid)) {
         None => "Here: the header has no `kid`; put the key's id into it, as in \"kid\":\"cellar 2\".".into(),
         Some(kid) => format!(
-            "Here: `kid` is \"{}\", and no key of the table has this id.",
-            encoding::safe(&header[kid.value])
+            "Here: `kid` is {}, and no key of the table has this id.",
+            named(&header[kid.value])
         ),
+    }
+}
+
+/// A raw `kid`; where it has escapes, after the id that it says, as `jws-table show` writes it.
+fn named(raw: &[u8]) -> String {
+    let spelled = encoding::safe(raw);
+    match encoding::resolved(raw) {
+        Some(id) if id.as_bytes() != raw => format!("{} (spelled \"{spelled}\")", encoding::id(id.as_bytes())),
+        _ => format!("\"{spelled}\""),
     }
 }
 
