@@ -47,6 +47,7 @@ fn beside_reference() {
     for (header, names) in [
         (shapes::plain(), "names that differ early"),
         (shapes::alike(), "names alike but for the end"),
+        (shapes::escaped(), "names and texts by escapes"),
     ] {
         println!("a header of {} bytes with 20 members, {names}:", header.len());
         for (name, members) in [("member 0", 0..1), ("member 19", 19..20), ("all 20, one by one", 0..20)] {

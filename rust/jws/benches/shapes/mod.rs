@@ -5,24 +5,42 @@ use jws::HEADER_MAX;
 /// The greatest depth of a header.
 const DEEPEST: usize = 8;
 
-/// A header of 1,000 bytes with 20 members of these names.
-fn twenty(names: impl Iterator<Item = String>) -> Vec<u8> {
-    let members: Vec<String> = names
-        .map(|name| format!("\"{name}\":\"{}\"", "v".repeat(43 - name.len())))
-        .collect();
+/// A header of 1,000 bytes with these 20 members.
+fn twenty(members: impl Iterator<Item = String>) -> Vec<u8> {
+    let members: Vec<String> = members.collect();
     assert_eq!(members.len(), 20);
-    format!("{:1000}", format!("{{{}}}", members.join(","))).into_bytes()
+    let header = format!("{:1000}", format!("{{{}}}", members.join(",")));
+    assert_eq!(header.len(), 1_000);
+    header.into_bytes()
+}
+
+/// The same with members of these names.
+fn twenty_named(names: impl Iterator<Item = String>) -> Vec<u8> {
+    twenty(names.map(|name| format!("\"{name}\":\"{}\"", "v".repeat(43 - name.len()))))
 }
 
 /// Names that differ in their first characters.
 pub fn plain() -> Vec<u8> {
     let names = "alg kid typ cty crit fmt iss sub aud exp nbf iat jti site tank valve pump unit zone rev";
-    twenty(names.split(' ').map(String::from))
+    twenty_named(names.split(' ').map(String::from))
 }
 
 /// Names that differ in their last characters.
 pub fn alike() -> Vec<u8> {
-    twenty((0..20).map(|i| format!("member-{i:02}")))
+    twenty_named((0..20).map(|i| format!("member-{i:02}")))
+}
+
+/// Names and texts of `\u` escapes alone, their letters small and capital in turn.
+pub fn escaped() -> Vec<u8> {
+    let escapes = |first: usize, count: usize| -> String {
+        (first..first + count)
+            .map(|i| match i % 2 {
+                0 => format!("\\u{:04x}", 0xABC0 + i),
+                _ => format!("\\u{:04X}", 0xABC0 + i),
+            })
+            .collect()
+    };
+    twenty((0..20).map(|i| format!("\"{}\":\"{}\"", escapes(i, 2), escapes(3 * i, 5))))
 }
 
 /// How a character is written.
