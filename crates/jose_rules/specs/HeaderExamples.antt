@@ -51,8 +51,7 @@ unfolding missingOrWrong criticalBroken lacking headerChoice rawText choiceBy fa
     read readValue readChars readChar charLead valueLead skip isUnescaped1 pastNumber within isDigit isDigit19 isE isWs
 second-key = (refl, refl)
 
--- EVERY KNOWN NAME AND TEXT BY ESCAPES, their digits small, and capital: the key whose id is the UTF-8 of U+00E9, and format 3; one letter
--- of a name made capital is another name, and `alg` is missing
+-- BY ESCAPES, their digits small and capital; the key's id is the UTF-8 of U+00E9, and it allows format 3
 abbrev accented : List Key
 accented = record { id = 0xC3 ∷ 0xA9 ∷ []; secret = replicate 32 9; algorithms = 1; formats = 4 } ∷ []
 
@@ -62,9 +61,11 @@ by-small = ascii "{\"a\\u006cg\":\"\\u0048S256\",\"\\u006bid\":\"\\u00e9\",\"cri
 abbrev by-capital : List ℕ
 by-capital = ascii "{\"a\\u006Cg\":\"\\u0048S256\",\"\\u006Bid\":\"\\u00E9\",\"crit\":[\"f\\u006Dt\"],\"f\\u006Dt\":3}"
 
+-- the case of a digit says nothing, but `\u004c` is the letter L: `alg` is missing
 abbrev another-name : List ℕ
 another-name = ascii "{\"a\\u004cg\":\"HS256\",\"kid\":\"\\u00e9\"}"
 
+-- both headers choose this key and format 3; the third gets 9
 pub by-escapes : (first (joseTests by-small (record { keys = accented })) ≡ 0) × (headerChoice by-small accented ≡ record { «key_index» = 0; «kid_present» = true; format = 3; typ = nowhere; cty = nowhere })
     × (first (joseTests by-capital (record { keys = accented })) ≡ 0) × (headerChoice by-capital accented ≡ headerChoice by-small accented)
     × (first (joseTests another-name (record { keys = accented })) ≡ 9)

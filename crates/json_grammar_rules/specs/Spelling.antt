@@ -1,4 +1,4 @@
--- Spelling: a digit of an escape says the same as a small and as a capital letter, so names that differ in this alone are one name.
+-- Spelling: a small letter among the digits of an escape says the same as the capital one, so names that differ in this alone are one name.
 use mathlib.Core.Path.{_≡_, refl, sym, ap, ap₂, _∙_}
 use mathlib.Core.Bool.{Bool, true, false, cond}
 use mathlib.Core.List.{List, [], _∷_}
@@ -11,11 +11,11 @@ use Rattle.json_grammar_rules.specs.Reader.{Got, got, readChars}
 use Rattle.json_grammar_rules.specs.ByteLaws.{within-true, within-is, above}
 use Rattle.json_grammar_rules.specs.CharLaws.{complete-chars}
 
--- a digit, its letter made small
+-- a digit, a capital letter made small
 unfoldable pub small : ℕ → ℕ
 small b = cond (within 0x41 0x46 b) (b + 0x20) b
 
--- is the digit that it was
+-- it is a digit where it was one, and of the same value
 small-digit : (b : ℕ) → (isHex (small b) ≡ isHex b) × (hexVal (small b) ≡ hexVal b)
 unfolding small isHex hexVal isDigit
 small-digit b = go (within 0x41 0x46 b) refl
@@ -36,7 +36,7 @@ module _ (a b c d : ℕ) where
   unfolding hex4
   small-hex4 = rw (small-digit a .1, small-digit b .1, small-digit c .1, small-digit d .1)
 
--- a character and a string, the digits of their escapes made small
+-- a character, and a string, the digits of their escapes made small
 unfoldable pub smallChar : Char → Char
 smallChar (unescaped u h) = unescaped u h
 smallChar (short x) = short x
@@ -49,7 +49,7 @@ unfoldable pub smallChars : Chars → Chars
 smallChars cnil = cnil
 smallChars (ccons c cs) = ccons (smallChar c) (smallChars cs)
 
--- say what they said
+-- their code points stay
 small-code : (c : Char) → codeOf (smallChar c) ≡ codeOf c
 unfolding smallChar codeOf
 small-code (unescaped u h) = refl
@@ -72,6 +72,6 @@ same-codes cs ds e =
     let q : readChars (length s) (yieldChars ds (0x22 ∷ [])) ≡ got (codesOf ds) [] = complete-chars ds (length s) [] (omega (arith, ap length k)) in
     cc
 
--- ONE NAME, however its escapes are spelled: names whose bytes are the same with the digits made small have the same code points
+-- ONE NAME: strings whose bytes are the same once their digits are made small have the same code points, by which names are compared
 pub one-name : (cs ds : Chars) → yieldString (smallChars cs) [] ≡ yieldString (smallChars ds) [] → codesOf cs ≡ codesOf ds
 one-name cs ds e = sym (small-codes cs) ∙ same-codes (smallChars cs) (smallChars ds) e ∙ small-codes ds
