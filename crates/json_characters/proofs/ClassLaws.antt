@@ -1,20 +1,48 @@
 -- Laws for the functions on classes of bytes.
-use mathlib.Core.Path.{_≡_, sym, _∙_}
-use mathlib.Core.Bool.{Bool, true, false, _||_, false≢true}
-use Prim.Native.Nat.{ℕ, _≤_, _<_, _+_, _-_, _%_}
+use mathlib.Core.Path.{_≡_, refl, sym, _∙_}
+use mathlib.Core.Logic.{_⊎_, inl, inr}
+use mathlib.Core.Bool.{Bool, true, false, false≢true}
+use Prim.Native.Nat.{ℕ, _≤_, _<_, _+_, _-_, _*_, _/_, _%_}
 use native.Mathlib.Omega.{arith}
+use lib.Dec.{leb}
+use borrow.Author.Tests.{leb-true, leb-false}
+use Rattle.common.specs.FirstLaws.{decides-bool, decides-or}
+use Rattle.common.specs.Decided.{decided, decides-by}
 use Rattle.json_grammar_rules.specs.Bytes.{within, isDigit, isHex, hexVal}
+use Rattle.json_grammar_rules.specs.Reader.{isUnescaped1}
 use Rattle.json_grammar_rules.specs.ByteLaws.{within-true, within-is, hex-cases}
 
--- three tests in turn: what each of them answers for all
-pub by-first : (a b c : Bool) → a ≡ true → true ≡ a || b || c
-by-first a b c e = rw e
+pub unescaped-1 : (b : ℕ) → within 0x20 0x21 b ≡ true → true ≡ isUnescaped1 b
+unfolding isUnescaped1
+unescaped-1 b e = rw e
 
-pub by-second : (a b c : Bool) → a ≡ false → b ≡ true → true ≡ a || b || c
-by-second a b c e f = rw (e, f)
+pub unescaped-2 : (b : ℕ) → within 0x20 0x21 b ≡ false → within 0x23 0x5B b ≡ true → true ≡ isUnescaped1 b
+unfolding isUnescaped1
+unescaped-2 b e f = rw (e, f)
 
-pub by-third : (a b c : Bool) → a ≡ false → b ≡ false → c ≡ a || b || c
-by-third a b c e f = rw (e, f)
+pub unescaped-3 : (b : ℕ) → within 0x20 0x21 b ≡ false → within 0x23 0x5B b ≡ false → within 0x5D 0x7F b ≡ isUnescaped1 b
+unfolding isUnescaped1
+unescaped-3 b e f = rw (e, f)
+
+pub hex-1 : (b : ℕ) → within 0x30 0x39 b ≡ true → true ≡ isHex b
+unfolding isHex isDigit
+hex-1 b e = rw e
+
+-- without bit 5, letters of both cases are in one range
+pub hex-2 : (b : ℕ) → within 0x30 0x39 b ≡ false → within 0x41 0x46 (b / 64 * 64 + b % 32) ≡ isHex b
+unfolding isHex isDigit
+hex-2 b e = rw e (decided (decides-bool _) (decides-by (decides-or (decides-bool _) (decides-bool _)) cleared either-case))
+  where
+    cleared : (within 0x41 0x46 b ≡ true) ⊎ (within 0x61 0x66 b ≡ true) → within 0x41 0x46 (b / 64 * 64 + b % 32) ≡ true
+    cleared (inl h) = let p = within-true 0x41 0x46 b h in within-is 0x41 0x46 _ (omega (arith, p)) (omega (arith, p))
+    cleared (inr h) = let p = within-true 0x61 0x66 b h in within-is 0x41 0x46 _ (omega (arith, p)) (omega (arith, p))
+
+    either-case : within 0x41 0x46 (b / 64 * 64 + b % 32) ≡ true → (within 0x41 0x46 b ≡ true) ⊎ (within 0x61 0x66 b ≡ true)
+    either-case h = let p = within-true 0x41 0x46 _ h in go (leb b 0x5F) refl p
+      where
+        go : (t : Bool) → leb b 0x5F ≡ t → (0x41 ≤ b / 64 * 64 + b % 32) × (b / 64 * 64 + b % 32 ≤ 0x46) → (within 0x41 0x46 b ≡ true) ⊎ (within 0x61 0x66 b ≡ true)
+        go true k p = let q = leb-true b 0x5F k in inl (within-is 0x41 0x46 b (omega (arith, p)) (omega (arith, p)))
+        go false k p = let q = leb-false b 0x5F k in inr (within-is 0x61 0x66 b (omega (arith, p)) (omega (arith, p)))
 
 -- the value of a decimal digit, and of a letter
 pub digit-low : (b : ℕ) → within 0x30 0x39 b ≡ true → 0x30 ≤ b

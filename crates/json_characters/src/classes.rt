@@ -40,20 +40,18 @@ pub fn is_unescaped1(b: u8) -> bool
     between(0x5D, 0x7F, b)
 }
 
-// The digits of an escape: 0-9, A-F and a-f.
+// The digits of an escape: 0-9, A-F and a-f. A small letter differs from its capital in bit 5 alone, so that one range without this bit
+// has both.
 pub(crate) fn is_hex(b: u8) -> bool
     ensures { λ r. ⌜ r ≡ isHex b ⌝ }
 {
     if between(0x30, 0x39, b) {
         return true;
     }
-    if between(0x41, 0x46, b) {
-        return true;
-    }
-    between(0x61, 0x66, b)
+    between(0x41, 0x46, b / 64 * 64 + b % 32)
 }
 
-// The value of such a digit. The low five bits of a letter are the same in both cases: 1 of A and a.
+// The value of such a digit: of a letter by its low five bits, which are 1 of A and a.
 pub(crate) fn hex_val(b: u8) -> u32
     requires { ⌜ isHex b ≡ true ⌝ }
     ensures { λ r. ⌜ (r ≡ hexVal b) × (r < 16) ⌝ }

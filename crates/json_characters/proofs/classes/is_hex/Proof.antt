@@ -1,25 +1,15 @@
 -- `is_hex` meets its contract.
 use mathlib.Core.Path.{sym, _∙_}
-use Rattle.json_grammar_rules.specs.Bytes.{isDigit, isHex}
-use Rattle.json_characters.proofs.ClassLaws.{by-first, by-second, by-third}
+use native.Mathlib.Omega.{arith}
+use Rattle.json_characters.proofs.ClassLaws.{hex-1, hex-2}
 use Rattle.json_characters.proofs.classes.is_hex.Statement.{statement}
 use Rattle.json_characters.proofs.classes.is_hex.Tie as tie
 
 returns : tie.Need-returns
-unfolding isHex isDigit
-returns c = by-first _ _ _ (sym (c .before .between .ensures) ∙ c .if1 .taken)
+returns c = hex-1 _ (sym (c .before .between .ensures) ∙ c .if1 .taken)
 
 returns-2 : tie.Need-returns-2
-unfolding isHex isDigit
-returns-2 c =
-    let e = c .before .before in
-    by-second _ _ _ (sym (e .before .between .ensures) ∙ e .if1 .left) (sym (c .before .between2 .ensures) ∙ c .if2 .taken)
-
-returns-3 : tie.Need-returns-3
-unfolding isHex isDigit
-returns-3 c =
-    let e = c .before .before .before in
-    c .between3 .ensures ∙ by-third _ _ _ (sym (e .before .between .ensures) ∙ e .if1 .left) (sym (c .before .before .between2 .ensures) ∙ c .before .if2 .left)
+returns-2 c = c .between2 .ensures ∙ hex-2 _ (sym (c .before .before .between .ensures) ∙ c .before .if1 .left)
 
 pub is-hex-spec : {M : Type 1} → statement M
-is-hex-spec = tie.close (tie.spec (λ c κs. tt) returns (λ c κs. tt) returns-2 (λ c κs. tt) returns-3)
+is-hex-spec = tie.close (tie.spec (λ c κs. tt) returns (λ c. omega arith) (λ c. omega arith) (λ c κs. tt) returns-2)
