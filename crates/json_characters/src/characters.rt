@@ -7,7 +7,7 @@ use crate::escapes::escape;
 use crate::utf8::form;
 use common::wide;
 
-// The character at a place, if one stands there. Rules out an overlong form taken for a character, and an escape with a letter past F or f for a digit.
+// The character at a place, if one stands there. Rules out an overlong form taken for a character, and `g` taken for a digit of an escape.
 pub fn char_at(s: &[u8], at: usize) -> Scan
     ensures { λ r. ⌜ r ≡ charAt (now (s .entry)) at ⌝ }
 {

@@ -3,11 +3,10 @@
 mod common;
 
 use std::fmt::Write as _;
-use std::io::{ErrorKind, Write as _};
-use std::process::{Command, Stdio};
+use std::io::Write as _;
 use std::thread;
 
-use common::{calls_by_answer, cases, raw_member, Calls, NO_CALLS};
+use common::{calls_by_answer, cases, python, raw_member, Calls, NO_CALLS};
 
 const SEED: u64 = 12;
 
@@ -39,18 +38,8 @@ fn line(header: &[u8], calls: &mut Calls) -> String {
 
 #[test]
 fn the_oracle_agrees() {
-    let oracle = Command::new("python3")
-        .arg(concat!(env!("CARGO_MANIFEST_DIR"), "/../tools/json_oracle.py"))
-        .args(["--members", "--compare"])
-        .stdin(Stdio::piped())
-        .stdout(Stdio::piped())
-        .spawn();
-    let mut oracle = match oracle {
-        Err(error) if error.kind() == ErrorKind::NotFound => {
-            println!("no python3 here: not compared");
-            return;
-        }
-        other => other.unwrap(),
+    let Some(mut oracle) = python("json_oracle.py", &["--members", "--compare"]) else {
+        return;
     };
     let mut lines = oracle.stdin.take().unwrap();
     let writer = thread::spawn(move || {

@@ -3,13 +3,12 @@
 
 mod common;
 
-use std::io::{ErrorKind, Write as _};
-use std::process::{Command, Stdio};
+use std::io::Write as _;
 use std::thread;
 
 use case_generator::header::quoted;
 use case_generator::rng::Rng;
-use common::{cases_or, sign, table_of, verify};
+use common::{cases_or, python, sign, table_of, verify};
 
 const SEED: u64 = 61;
 
@@ -53,18 +52,7 @@ fn hex(bytes: &[u8]) -> String {
 
 /// What the other library answers to some requests, a line each; `None` where there is no Python.
 fn asked(requests: Vec<String>) -> Option<Vec<String>> {
-    let library = Command::new("python3")
-        .arg(concat!(env!("CARGO_MANIFEST_DIR"), "/../tools/other_library.py"))
-        .stdin(Stdio::piped())
-        .stdout(Stdio::piped())
-        .spawn();
-    let mut library = match library {
-        Err(error) if error.kind() == ErrorKind::NotFound => {
-            println!("no python3 here: not compared");
-            return None;
-        }
-        other => other.unwrap(),
-    };
+    let mut library = python("other_library.py", &[])?;
     let count = requests.len();
     let mut input = library.stdin.take().unwrap();
     let writer = thread::spawn(move || {

@@ -6,6 +6,9 @@
 #[path = "../../../reference/tests/common/rfc7520.rs"]
 pub mod rfc7520;
 
+use std::io::ErrorKind;
+use std::process::{Child, Command, Stdio};
+
 use jws::{ffi, Refusal};
 
 /// How many cases a test runs: `CASES` of the environment, or this many.
@@ -19,6 +22,25 @@ pub fn cases_or(count: usize) -> usize {
 /// `CASES` of the environment, or 20,000.
 pub fn cases() -> usize {
     cases_or(20_000)
+}
+
+/// A script of `tools/`, its input and output piped; none where there is no Python, which is said.
+pub fn python(script: &str, options: &[&str]) -> Option<Child> {
+    let path = format!("{}/../tools/{script}", env!("CARGO_MANIFEST_DIR"));
+    let (input, output) = (Stdio::piped(), Stdio::piped());
+    match Command::new("python3")
+        .arg(path)
+        .args(options)
+        .stdin(input)
+        .stdout(output)
+        .spawn()
+    {
+        Err(error) if error.kind() == ErrorKind::NotFound => {
+            println!("no python3 here: not compared");
+            None
+        }
+        other => Some(other.unwrap()),
+    }
 }
 
 /// What stands before a call in the words that are written and beside them; its bytes, in buffers.
