@@ -1,15 +1,13 @@
 -- Spelling: a small letter among the digits of an escape says the same as the capital one, so names that differ in this alone are one name.
-use mathlib.Core.Path.{_≡_, refl, sym, ap, ap₂, _∙_}
+use mathlib.Core.Path.{_≡_, refl, ap, ap₂, _∙_}
 use mathlib.Core.Bool.{Bool, true, false, cond}
 use mathlib.Core.List.{List, [], _∷_}
-use Prim.Native.Nat.{ℕ, _+_, _-_, _≤_}
+use Prim.Native.Nat.{ℕ, _+_}
 use native.Mathlib.Omega.{arith}
-use lib.ListN.{length}
 use Rattle.json_grammar_rules.specs.Bytes.{within, isDigit, isHex, hexVal, allHex, hex4, isHigh, isLow, isSurrogate, pairCode}
-use Rattle.json_grammar_rules.specs.Grammar.{Char, unescaped, short, unicode, surrogates, Chars, cnil, ccons, yieldChars, yieldString, codeOf, codesOf}
-use Rattle.json_grammar_rules.specs.Reader.{Got, got, readChars}
+use Rattle.json_grammar_rules.specs.Grammar.{Char, unescaped, short, unicode, surrogates, Chars, cnil, ccons, yieldChars, codeOf, codesOf}
 use Rattle.json_grammar_rules.specs.ByteLaws.{within-true, within-is, above}
-use Rattle.json_grammar_rules.specs.CharLaws.{complete-chars}
+use Rattle.json_grammar_rules.specs.ShownLaws.{text-once}
 
 -- a digit, a capital letter made small
 unfoldable pub small : ℕ → ℕ
@@ -62,16 +60,6 @@ unfolding smallChars codesOf
 small-codes cnil = refl
 small-codes (ccons c cs) = ap₂ (λ (x : ℕ) (xs : List ℕ). x ∷ xs) (small-code c) (small-codes cs)
 
--- two strings of the same bytes have the same code points
-same-codes : (cs ds : Chars) → yieldString cs [] ≡ yieldString ds [] → codesOf cs ≡ codesOf ds
-unfolding yieldString
-same-codes cs ds e =
-    let s = yieldChars cs (0x22 ∷ []) in
-    let k : s ≡ yieldChars ds (0x22 ∷ []) = cc in
-    let p : readChars (length s) s ≡ got (codesOf cs) [] = complete-chars cs (length s) [] (omega arith) in
-    let q : readChars (length s) (yieldChars ds (0x22 ∷ [])) ≡ got (codesOf ds) [] = complete-chars ds (length s) [] (omega (arith, ap length k)) in
-    cc
-
 -- ONE NAME: strings whose bytes are the same once their digits are made small have the same code points, by which names are compared
-pub one-name : (cs ds : Chars) → yieldString (smallChars cs) [] ≡ yieldString (smallChars ds) [] → codesOf cs ≡ codesOf ds
-one-name cs ds e = sym (small-codes cs) ∙ same-codes (smallChars cs) (smallChars ds) e ∙ small-codes ds
+pub one-name : (cs ds : Chars) → yieldChars (smallChars cs) [] ≡ yieldChars (smallChars ds) [] → codesOf cs ≡ codesOf ds
+one-name cs ds e = text-once _ _ _ (smallChars cs, e, small-codes cs) (smallChars ds, refl, small-codes ds)
