@@ -1,3 +1,4 @@
 -- Laws for the code's proofs.
+pub mod MarkLaws
 pub mod NameLaws
 pub mod TextLaws

@@ -1,350 +1,415 @@
 -- Names that stand twice: a law for each way through each function.
 use mathlib.Core.Path.{_≡_, refl, sym, ap, ap₂, _∙_, subst}
-use mathlib.Core.Bool.{Bool, true, false, _||_, or-true, or-assoc}
+use mathlib.Core.Bool.{Bool, true, false, _||_, or-true}
 use mathlib.Core.List.{List, [], _∷_}
-use Prim.Native.Nat.{ℕ, zero, suc, _+_, _-_, _≤_, _<_}
+use Prim.Native.Nat.{ℕ, suc, _+_, _-_, _≤_, _<_}
 use native.Mathlib.Omega.{arith}
-use native.Mathlib.Numerals.{add-one}
+use native.Mathlib.Numerals.{add-one, sub-one}
 use lib.Dec.{eqb}
-use lib.ListN.{length, drop, getD, set, drop-of-length-le}
+use lib.ListN.{length, drop, getD, set}
 use lib.Seq.{getD-set-same, getD-set-other}
-use borrow.Author.Tests.{eqb-true, eqb-false, ne-eqb}
+use borrow.Author.Tests.{eqb-true, eqb-false}
 use Rattle.common.specs.Same.{same}
-use Rattle.common.specs.SameLaws.{same-sym}
-use Rattle.json_grammar_rules.specs.Value.{among, repeated, names, LMembers, item, named, lnil, lcons, plain}
-use Rattle.json_grammar_rules.specs.Reader.{Got, bad, got, readChars}
-use Rattle.json_grammar_rules.specs.Scan.{namesTwice, scan-string, scan}
-use Rattle.json_string.specs.declared.End.{End}
+use Rattle.json_grammar_rules.specs.Value.{among}
+use Rattle.json_grammar_rules.specs.Scan.{opens, closes, marks, around, beyond, search, every, no-more}
+use Rattle.json_grammar_rules.specs.ScanLaws.{search-parts}
 use Rattle.json_string.specs.declared.End.the-variants.{At, Bad}
-use Rattle.json_string.specs.Ends.{at-byte, left, shorter, fuel, ends-at, ends-bad}
-use Rattle.json_string.specs.Strings.{NameAt, sameText, StringEnds, fingerprintAt}
+use Rattle.json_string.specs.Strings.{NameAt, sameText, fingerprintAt}
 use Rattle.json_string.specs.StringLaws.{names-same}
-use Rattle.json_tokens.specs.Tokens.{SkipsTo}
-use Rattle.json_reader.specs.Contracts.{MembersEnd, readMembers}
-use Rattle.json_tokens.specs.EndsLaws.{given, none}
-use Rattle.json_members.specs.declared.steps.Entry.{Entry}
-use Rattle.json_members.specs.Members.{MembersAt, MembersFrom, EntryAt}
-use Rattle.json_members.specs.MemberLaws.{no-members}
-use Rattle.json_members.specs.StepLaws.{first-name}
 use Rattle.json_check.specs.declared.names.Search.{Search}
 use Rattle.json_check.specs.declared.names.Search.the-variants.{Twice, Past}
-use Rattle.json_check.specs.Twice.{namesOf, NamesTwice, Fingerprinted, Block, empty, one-more, crosses, Meets, Searched, ObjectTwice, TwiceFrom}
+use Rattle.json_check.specs.Marks.{Shows, NameShown, NoMarks}
+use Rattle.json_check.specs.Twice.{Finds, Names, none, one-more, Held, outermost, within, Holds, Meets, TwiceFrom, Searched}
 
--- LISTS OF NAMES
+-- WHAT THE SEARCH FINDS, by the next mark
 
-or-swap : (a b c d : Bool) → (a || b) || (c || d) ≡ (b || c) || (a || d)
-or-swap true true c d = refl
-or-swap true false true d = refl
-or-swap true false false d = refl
-or-swap false true c d = refl
-or-swap false false c d = refl
+module _ {kept : List ℕ → List (List ℕ) → List (List ℕ)} {s : List ℕ} {p e : ℕ} (b : List (List ℕ)) (o : List (List (List ℕ))) where
+  finds-opens : {r : Bool} → Shows s p e (opens ∷ []) → Finds kept s e [] (b ∷ o) r → Finds kept s p b o r
+  unfolding search
+  finds-opens h f = record { is = λ n l. let i = h .is n l in f .is (i .0) (i .1) ∙ sym (ap (search kept b o) (i .2)) }
 
-crosses-none : (ys : List (List ℕ)) → crosses [] ys ≡ false
-unfolding crosses among
-crosses-none [] = refl
-crosses-none (y ∷ ys) = crosses-none ys
+  finds-closes : {r : Bool} → Shows s p e (closes ∷ []) → Finds kept s e (around o) (beyond o) r → Finds kept s p b o r
+  unfolding search
+  finds-closes h f = record { is = λ n l. let i = h .is n l in f .is (i .0) (i .1) ∙ sym (ap (search kept b o) (i .2)) }
 
-crosses-more : (n : List ℕ) (b ys : List (List ℕ)) → crosses (n ∷ b) ys ≡ crosses b ys || among n ys
-unfolding crosses among
-crosses-more n b [] = refl
-crosses-more n b (y ∷ ys) =
-    ap (λ (t : Bool). (same y n || among y b) || t) (crosses-more n b ys)
-    ∙ or-swap (same y n) (among y b) (crosses b ys) (among n ys)
-    ∙ ap (λ (t : Bool). (among y b || crosses b ys) || (t || among n ys)) (same-sym y n)
+  module _ {q : ℕ} (h : NameShown s p q e) where
+    -- a name that is new to its object
+    finds-new : {r : Bool} → among (h .text) b ≡ false → Finds kept s e (kept (h .text) b) o r → Finds kept s p b o r
+    unfolding search
+    finds-new w f = record {
+      is = λ n l.
+          let i = h .shows .is n l in
+          f .is (i .0) (i .1) ∙ ap (λ (t : Bool). t || search kept (kept (h .text) b) o (marks (i .0) (drop e s))) (sym w) ∙ sym (ap (search kept b o) (i .2));
+    }
 
--- a name that the block hasn't joins it
-joins : (n : List ℕ) (b ys : List (List ℕ)) → among n b ≡ false → crosses b (n ∷ ys) || repeated (n ∷ ys) ≡ crosses (n ∷ b) ys || repeated ys
-unfolding crosses repeated
-joins n b ys e =
-    ap (λ (t : Bool). (t || crosses b ys) || (among n ys || repeated ys)) e
-    ∙ sym (or-assoc (crosses b ys) (among n ys) (repeated ys))
-    ∙ ap (λ (t : Bool). t || repeated ys) (sym (crosses-more n b ys))
+    -- a name that its object has
+    finds-known : among (h .text) b ≡ true → Finds kept s p b o true
+    unfolding search
+    finds-known w = record {
+      is = λ n l. let i = h .shows .is n l in sym (ap (search kept b o) (i .2) ∙ ap (λ (t : Bool). t || search kept (kept (h .text) b) o (marks (i .0) (drop e s))) w);
+    }
 
--- a callee's contract at the answer that it gave
-pub answered : {s : List ℕ} {p : ℕ} (d : ℕ) {r r′ : Bool} → r ≡ r′ → NamesTwice s p d r → NamesTwice s p d r′
-answered {s} {p} d e h = subst (λ (z : Bool). NamesTwice s p d z) e h
+module _ {kept : List ℕ → List (List ℕ) → List (List ℕ)} {s : List ℕ} {p : ℕ} (b : List (List ℕ)) (o : List (List (List ℕ))) where
+  finds-none : NoMarks s p → Finds kept s p b o false
+  unfolding search
+  finds-none h = record { is = λ n l. sym (ap (search kept b o) (h .is n l)) }
 
-pub string-bounds : (s : List ℕ) (at : ℕ) {e : ℕ} → StringEnds s at (At e) → (at ≤ e) × (e ≤ length s)
-unfolding StringEnds
-string-bounds s at {e} h = let k = ends-at s at e (readChars (length (drop at s)) (drop at s)) (h (length (drop at s)) (omega arith)) in (k .2, k .3)
+-- names that are there, and names among themselves
+module _ {s : List ℕ} {p : ℕ} {b : List (List ℕ)} {o : List (List (List ℕ))} where
+  parts : {t : Bool} → Finds no-more s p b o t → (n : ℕ) → length (drop p s) ≤ n → search every b o (marks n (drop p s)) ≡ t || search every [] [] (marks n (drop p s))
+  parts f n l = let ms = marks n (drop p s) in search-parts b o ms ∙ ap (λ (t : Bool). t || search every [] [] ms) (sym (f .is n l))
 
--- THE BLOCK
+  parts-met : Finds no-more s p b o true → Finds every s p b o true
+  parts-met f = record { is = λ n l. sym (parts f n l) }
 
--- the first k names of the block are other than the name at q in t
-pub record Without (s a : List ℕ) (k : ℕ) (t : List ℕ) (q : ℕ) : Type 0 where
-  pub is : (n : List ℕ) (b : List (List ℕ)) → Block s a k b → NameAt t q n → among n b ≡ false
+  parts-past : Finds no-more s p b o false → (r : Bool) → TwiceFrom s p r → Finds every s p b o r
+  parts-past f r h = record { is = λ n l. h .is n l ∙ sym (parts f n l) }
 
-module _ {s a t : List ℕ} where
-  pub without-start : (q : ℕ) → Without s a 0 t q
-  unfolding among
-  without-start q = record { is = go }
+-- THE STACK
+
+module _ {s a m : List ℕ} where
+  names-low : {j k : ℕ} {b : List (List ℕ)} → Names s a m j k b → j ≤ k
+  names-low none = omega arith
+  names-low (one-more x f y) = let h = names-low y in omega arith
+
+  held-names : {j k : ℕ} {b : List (List ℕ)} {o : List (List (List ℕ))} → Held s a m j k b o → Names s a m j k b
+  held-names (outermost y) = y
+  held-names (within h y) = y
+
+  pub held-low : {j k : ℕ} → Holds s a m j k → j ≤ k
+  held-low h = names-low (held-names (h .held))
+
+  -- the fingerprint of a name of the innermost object
+  names-print : {j k : ℕ} {b : List (List ℕ)} → Names s a m j k b → (i : ℕ) → j ≤ i → i < k → getD m i 0 ≡ fingerprintAt s (getD a i 0)
+  names-print none i l h = absurd (omega arith)
+  names-print (one-more {k = k} x f y) i l h = go (eqb i k) refl (λ c. names-print y i l c)
     where
-      go : (n : List ℕ) (b : List (List ℕ)) → Block s a 0 b → NameAt t q n → among n b ≡ false
-      go n b empty h = refl
+      go : (t : Bool) → eqb i k ≡ t → (i < k → getD m i 0 ≡ fingerprintAt s (getD a i 0)) → getD m i 0 ≡ fingerprintAt s (getD a i 0)
+      go true z ih = rw (eqb-true i k z) f
+      go false z ih = let d = eqb-false i k z in ih (omega arith)
 
-  pub without-next : {i q : ℕ} → Without s a i t q → sameText t q s (getD a i 0) ≡ false → Without s a (i + 1) t q
-  unfolding among
-  without-next {i} {q} w e = record { is = λ n b k h. go n h b (subst (λ (j : ℕ). Block s a j b) (add-one i) k) }
+  pub held-print : {j k : ℕ} → Holds s a m j k → (i : ℕ) → j ≤ i → i < k → getD m i 0 ≡ fingerprintAt s (getD a i 0)
+  held-print h = names-print (held-names (h .held))
+
+-- what stands past them may be set
+abbrev Below : List ℕ → List ℕ → ℕ → Type 0
+Below a a′ k = (i : ℕ) → i < k → getD a′ i 0 ≡ getD a i 0
+
+below-set : (a : List ℕ) (k i v : ℕ) → k ≤ i → Below a (set a i v) k
+below-set a k i v h j l = getD-set-other a i j v 0 (λ e. absurd (omega arith))
+
+names-moved : {s a m a′ m′ : List ℕ} {j k : ℕ} {b : List (List ℕ)} → Names s a m j k b → Below a a′ k → Below m m′ k → Names s a′ m′ j k b
+names-moved none f g = none
+names-moved {s} (one-more {k = k} {n = n} x e y) f g =
+    one-more (subst (λ (p : ℕ). NameAt s p n) (sym (f k (omega arith))) x) (rw (f k (omega arith), g k (omega arith)) e)
+    (names-moved y (λ i l. f i (omega arith)) (λ i l. g i (omega arith)))
+
+held-moved : {s a m a′ m′ : List ℕ} {j k : ℕ} {b : List (List ℕ)} {o : List (List (List ℕ))} → Held s a m j k b o → Below a a′ k → Below m m′ k → Held s a′ m′ j k b o
+held-moved (outermost y) f g = outermost (names-moved y f g)
+held-moved {s} {a} {m} {a′} {m′} (within {j = j} {c = c} {o = o} y z) f g =
+    let l = names-low z in
+    within (subst (λ (x : ℕ). Held s a′ m′ x j c o) (sym (f j (omega arith))) (held-moved y (λ i h. f i (omega arith)) (λ i h. g i (omega arith)))) (names-moved z f g)
+
+module _ {s a m : List ℕ} {j k : ℕ} {b : List (List ℕ)} {o : List (List (List ℕ))} where
+  -- a name more
+  held-name : Held s a m j k b o → (q x : ℕ) (n : List ℕ) → NameAt s q n → x ≡ fingerprintAt s q → k < length a → k < length m → Held s (set a k q) (set m k x) j (k + 1) (n ∷ b) o
+  held-name h q x n w e u v = rw add-one (go (held-moved h (below-set a k k q (omega arith)) (below-set m k k x (omega arith))))
     where
-      go : (n : List ℕ) → NameAt t q n → (b : List (List ℕ)) → Block s a (suc i) b → among n b ≡ false
-      go n h (m ∷ c) (one-more x y) = ap₂ _||_ (sym (names-same t q s (getD a i 0) n m h x) ∙ e) (w .is n c y h)
+      at-k : getD (set a k q) k 0 ≡ q
+      at-k = getD-set-same a k q 0 u
 
-  pub without-all : {k i q : ℕ} → (i ≤ k) × Without s a i t q → k ≤ i → Without s a k t q
-  without-all {k} {i} {q} w h = let e : i ≡ k = omega (arith, w .0) in subst (λ (j : ℕ). Without s a j t q) e (w .1)
+      more : {i : ℕ} {c : List (List ℕ)} → Names s (set a k q) (set m k x) i k c → Names s (set a k q) (set m k x) i (suc k) (n ∷ c)
+      more y = one-more (subst (λ (p : ℕ). NameAt s p n) (sym at-k) w) (rw (at-k, getD-set-same m k x 0 v) e) y
 
--- a name equal to the name at q in t is among them
-module _ {s a : List ℕ} (t : List ℕ) where
-  found : {k : ℕ} {b : List (List ℕ)} → Block s a k b → (i q : ℕ) → i < k → (n : List ℕ) → NameAt t q n → sameText t q s (getD a i 0) ≡ true → among n b ≡ true
+      go : {i : ℕ} {c : List (List ℕ)} {p : List (List (List ℕ))} → Held s (set a k q) (set m k x) i k c p → Held s (set a k q) (set m k x) i (suc k) (n ∷ c) p
+      go (outermost y) = outermost (more y)
+      go (within y z) = within y (more z)
+
+  -- an object opens
+  held-opens : Held s a m j k b o → k < length a → Held s (set a k j) m (k + 1) (k + 1) [] (b ∷ o)
+  held-opens h u =
+      rw add-one
+      (within (subst (λ (x : ℕ). Held s (set a k j) m x k b o) (sym (getD-set-same a k j 0 u)) (held-moved h (below-set a k k j (omega arith)) (λ i l. refl))) none)
+
+-- an object closes: that around it is not on the stack, or is
+module _ {s a m : List ℕ} {k : ℕ} {b : List (List ℕ)} where
+  held-bare : {j : ℕ} {o : List (List (List ℕ))} → Held s a m j k b o → j ≡ 0 → Held s a m j 0 (around o) (beyond o)
+  held-bare (outermost y) z = outermost none
+  held-bare (within y w) z = absurd (omega arith)
+
+  held-closes : {j : ℕ} {o : List (List (List ℕ))} → Held s a m j k b o → (j ≡ 0 → ⊥) → Held s a m (getD a (j - 1) 0) (j - 1) (around o) (beyond o)
+  held-closes (outermost y) z = absurd (z refl)
+  held-closes (within {j = j} y w) z = rw sub-one y
+
+-- COMPARING a name with those of the innermost object
+
+-- the names from j up to k are other than the name at q
+pub record Without (s a m : List ℕ) (j k q : ℕ) : Type 0 where
+  pub is : (n : List ℕ) (b : List (List ℕ)) → Names s a m j k b → NameAt s q n → among n b ≡ false
+
+module _ {s a m : List ℕ} {j : ℕ} where
+  pub without-start : (q : ℕ) → Without s a m j j q
   unfolding among
-  found empty i q l n h c = absurd (omega arith)
-  found (one-more {k = k} {n = m} {b = b} x y) i q l n h c = go (eqb i k) refl (λ j. found y i q j n h c)
+  without-start q = record { is = λ n b y h. go j refl n b y }
     where
-      go : (e : Bool) → eqb i k ≡ e → (i < k → among n b ≡ true) → same n m || among n b ≡ true
-      go true e ih = ap (λ (z : Bool). z || among n b) (sym (names-same t q s (getD a i 0) n m h (subst (λ (j : ℕ). NameAt s (getD a j 0) m) (sym (eqb-true i k e)) x)) ∙ c)
-      go false e ih = let j = eqb-false i k e in ap (λ (z : Bool). same n m || z) (ih (omega arith)) ∙ or-true (same n m)
+      go : (k : ℕ) → k ≡ j → (n : List ℕ) (b : List (List ℕ)) → Names s a m j k b → among n b ≡ false
+      go k e n [] none = refl
+      go k e n (x ∷ b) (one-more w f y) = let l = names-low y in absurd (omega arith)
 
--- a place past the block may be set
-module _ {s a : List ℕ} where
-  kept : {k : ℕ} {b : List (List ℕ)} → Block s a k b → (j v : ℕ) → k ≤ j → Block s (set a j v) k b
-  kept empty j v h = empty
-  kept (one-more {k = k} {n = n} x y) j v h =
-      one-more (subst (λ (p : ℕ). NameAt s p n) (sym (getD-set-other a j k v 0 (λ e. absurd (omega arith)))) x) (kept y j v (omega arith))
+  pub without-next : {i q : ℕ} → Without s a m j i q → j ≤ i → sameText s q s (getD a i 0) ≡ false → Without s a m j (i + 1) q
+  unfolding among
+  without-next {i} {q} w l e = record { is = λ n b y h. go n h (i + 1) refl b y }
+    where
+      go : (n : List ℕ) → NameAt s q n → (k : ℕ) → k ≡ i + 1 → (b : List (List ℕ)) → Names s a m j k b → among n b ≡ false
+      go n h k c [] none = refl
+      go n h k c (x ∷ b) (one-more {k = k′} u f y) =
+          let z : k′ ≡ i = omega arith in
+          ap₂ _||_ (sym (names-same s q s (getD a i 0) n x h (subst (λ (v : ℕ). NameAt s (getD a v 0) x) z u)) ∙ e) (w .is n b (subst (λ (v : ℕ). Names s a m j v b) z y) h)
 
--- THE FINGERPRINTS of the block
+  pub without-all : {k i q : ℕ} → (j ≤ i) × (i ≤ k) × Without s a m j i q → k ≤ i → Without s a m j k q
+  without-all {k} {i} {q} w h = let e : i ≡ k = omega (arith, w .1) in subst (λ (x : ℕ). Without s a m j x q) e (w .2)
 
-pub fingerprinted-start : (s a m : List ℕ) → Fingerprinted s a m 0
-fingerprinted-start s a m = record { fingerprints = λ i l. absurd (omega arith) }
+  -- a name equal to the name at q is among them
+  found : {k : ℕ} {b : List (List ℕ)} → Names s a m j k b → (i q : ℕ) → j ≤ i → i < k → (n : List ℕ) → NameAt s q n → sameText s q s (getD a i 0) ≡ true → among n b ≡ true
+  unfolding among
+  found none i q u l n h c = absurd (omega arith)
+  found (one-more {k = k} {n = x} {b = b} w f y) i q u l n h c = go (eqb i k) refl (λ v. found y i q u v n h c)
+    where
+      go : (e : Bool) → eqb i k ≡ e → (i < k → among n b ≡ true) → same n x || among n b ≡ true
+      go true e ih = ap (λ (z : Bool). z || among n b) (sym (names-same s q s (getD a i 0) n x h (subst (λ (v : ℕ). NameAt s (getD a v 0) x) (sym (eqb-true i k e)) w)) ∙ c)
+      go false e ih = let d = eqb-false i k e in ap (λ (z : Bool). same n x || z) (ih (omega arith)) ∙ or-true (same n x)
 
-pub fingerprinted-full : {s a m : List ℕ} {k j : ℕ} → k ≡ j → Fingerprinted s a m k → Fingerprinted s a m j
-fingerprinted-full {s} {a} {m} {k} {j} e h = subst (λ (i : ℕ). Fingerprinted s a m i) e h
+-- A PASS
 
-pub fingerprinted-next : {s a m : List ℕ} {k : ℕ} → Fingerprinted s a m k → (q x : ℕ) → x ≡ fingerprintAt s q → k < length a → k < length m → Fingerprinted s (set a k q) (set m k x) (k + 1)
-fingerprinted-next {s} {a} {m} {k} h q x f u v = record { fingerprints = λ i c. print i c (eqb i k) refl }
-  where
-    print : (i : ℕ) → i < k + 1 → (t : Bool) → eqb i k ≡ t → getD (set m k x) i 0 ≡ fingerprintAt s (getD (set a k q) i 0)
-    print i c true z = let j = eqb-true i k z in rw (j, getD-set-same a k q 0 u, getD-set-same m k x 0 v) f
-    print i c false z = let j = eqb-false i k z in rw (getD-set-other a k i q 0 j, getD-set-other m k i x 0 j) (h .fingerprints i (omega arith))
-
--- WHILE THE BLOCK FILLS: the walk from `from` came to p, and the names of the k members before it are the block
-
-pub record Filled (s : List ℕ) (d : ℕ) (a : List ℕ) (k p : ℕ) (ms : LMembers) : Type 0 where
-  pub block : List (List ℕ)
-  pub stands : Block s a k block
-  pub rest : LMembers
-  pub here : MembersAt s p d rest
-  pub agrees : repeated (namesOf ms) ≡ crosses block (namesOf rest) || repeated (namesOf rest)
-
-pub record Filling (s : List ℕ) (d from : ℕ) (a : List ℕ) (k p : ℕ) : Type 0 where
+-- the pass from `from` on came to p, and holds names of the objects that are open there
+pub record Filling (s : List ℕ) (from : ℕ) (a m : List ℕ) (j k p : ℕ) : Type 0 where
   pub low : from + k ≤ p
-  pub high : p < length s
-  pub is : (ms : LMembers) → MembersAt s from d ms → Filled s d a k p ms
+  pub high : p ≤ length s
+  pub holds : Holds s a m j k
+  pub agrees : (r : Bool) → Finds every s p (holds .inner) (holds .outer) r → TwiceFrom s from r
 
-pub filling-start : {s : List ℕ} {from : ℕ} (d : ℕ) (a : List ℕ) → from < length s → Filling s d from a 0 from
-filling-start {s} {from} d a h = record {
+-- it is full: k names are as many as there is room for
+module _ {s a m : List ℕ} {j k n : ℕ} (e : k ≡ n) where
+  pub full : Holds s a m j k → Holds s a m j n
+  full h = subst (λ (i : ℕ). Holds s a m j i) e h
+
+  pub filled : {from p : ℕ} → Filling s from a m j k p → Filling s from a m j n p
+  filled {from} {p} h = subst (λ (i : ℕ). Filling s from a m j i p) e h
+
+pub filling-start : {s : List ℕ} {from : ℕ} (a m : List ℕ) → from ≤ length s → Filling s from a m 0 0 from
+filling-start a m h = record { low = omega arith; high = h; holds = record { inner = []; outer = []; held = outermost none }; agrees = λ r f. f }
+
+module _ {s : List ℕ} {from : ℕ} {a m : List ℕ} {j k p : ℕ} (fl : Filling s from a m j k p) where
+  abbrev b : List (List ℕ)
+  b = fl .holds .inner
+
+  abbrev o : List (List (List ℕ))
+  o = fl .holds .outer
+
+  module _ {q e : ℕ} (h : NameShown s p q e) where
+    pub filling-found : (i : ℕ) → j ≤ i → i < k → sameText s q s (getD a i 0) ≡ true → Searched s from Twice
+    unfolding Searched
+    filling-found i u l c = fl .agrees true (finds-known b o h (found (held-names (fl .holds .held)) i q u l (h .text) (h .stands) c))
+
+    pub filling-name : (x : ℕ) → Without s a m j k q → x ≡ fingerprintAt s q → k < length a → k < length m → Filling s from (set a k q) (set m k x) j (k + 1) e
+    filling-name x w f u v = record {
+      low = omega (arith, fl .low, h .shows .later);
+      high = h .shows .high;
+      holds = record { inner = h .text ∷ b; outer = o; held = held-name (fl .holds .held) q x (h .text) (h .stands) f u v };
+      agrees = λ r z. fl .agrees r (finds-new b o h (w .is (h .text) b (held-names (fl .holds .held)) (h .stands)) z);
+    }
+
+  module _ {e : ℕ} where
+    pub filling-opens : Shows s p e (opens ∷ []) → k < length a → Filling s from (set a k j) m (k + 1) (k + 1) e
+    filling-opens h u = record {
+      low = omega (arith, fl .low, h .later);
+      high = h .high;
+      holds = record { inner = []; outer = b ∷ o; held = held-opens (fl .holds .held) u };
+      agrees = λ r z. fl .agrees r (finds-opens b o h z);
+    }
+
+    pub filling-bare : Shows s p e (closes ∷ []) → j ≡ 0 → Filling s from a m j 0 e
+    filling-bare h z = record {
+      low = omega (arith, fl .low, h .later);
+      high = h .high;
+      holds = record { inner = around o; outer = beyond o; held = held-bare (fl .holds .held) z };
+      agrees = λ r f. fl .agrees r (finds-closes b o h f);
+    }
+
+    pub filling-closes : Shows s p e (closes ∷ []) → (j ≡ 0 → ⊥) → Filling s from a m (getD a (j - 1) 0) (j - 1) e
+    filling-closes h z = record {
+      low = omega (arith, fl .low, h .later, held-low (fl .holds));
+      high = h .high;
+      holds = record { inner = around o; outer = beyond o; held = held-closes (fl .holds .held) z };
+      agrees = λ r f. fl .agrees r (finds-closes b o h f);
+    }
+
+  pub filling-last : NoMarks s p → Searched s from (Past Bad)
+  unfolding Searched
+  filling-last h = fl .agrees false (finds-none b o h)
+
+  -- no more room
+  module _ {t : Bool} (h : Meets s a m j k p t) where
+    met : {u : Bool} → t ≡ u → Finds no-more s p b o u
+    met e = subst (λ (z : Bool). Finds no-more s p b o z) e (h .is b o (fl .holds .held))
+
+    pub filling-met : t ≡ true → Searched s from Twice
+    unfolding Searched
+    filling-met e = fl .agrees true (parts-met (met e))
+
+    pub filling-past : t ≡ false → 0 < k → Searched s from (Past (At p))
+    unfolding Searched
+    filling-past e l = (omega (arith, fl .low), fl .high, λ r f. fl .agrees r (parts-past (met e) r f))
+
+-- NO MORE ROOM: i objects have opened since and are open; nothing is held of them, and below them are b and o
+pub data Hidden (b : List (List ℕ)) (o : List (List (List ℕ))) : ℕ → List (List ℕ) → List (List (List ℕ)) → Type 0 where
+  plain : Hidden b o 0 b o
+  deeper : {i : ℕ} {c : List (List ℕ)} {d : List (List (List ℕ))} → Hidden b o i c d → Hidden b o (suc i) [] (c ∷ d)
+
+module _ {b : List (List ℕ)} {o : List (List (List ℕ))} where
+  at-plain : {i : ℕ} {c : List (List ℕ)} {d : List (List (List ℕ))} → Hidden b o i c d → i ≡ 0 → c ≡ b
+  at-plain plain z = refl
+  at-plain (deeper h) z = absurd (omega arith)
+
+  at-deeper : {i : ℕ} {c : List (List ℕ)} {d : List (List (List ℕ))} → Hidden b o i c d → (i ≡ 0 → ⊥) → c ≡ []
+  at-deeper plain z = absurd (z refl)
+  at-deeper (deeper h) z = refl
+
+  -- an object closes: one of the i, or one that is held
+  hidden-out : {i : ℕ} {c : List (List ℕ)} {d : List (List (List ℕ))} → Hidden b o i c d → (i ≡ 0 → ⊥) → Hidden b o (i - 1) (around d) (beyond d)
+  hidden-out plain z = absurd (z refl)
+  hidden-out (deeper h) z = rw sub-one h
+
+  hidden-held : {i : ℕ} {c : List (List ℕ)} {d : List (List (List ℕ))} → Hidden b o i c d → i ≡ 0 → Hidden (around o) (beyond o) i (around d) (beyond d)
+  hidden-held plain z = plain
+  hidden-held (deeper h) z = absurd (omega arith)
+
+-- what is found from p on, with c and d, is what is found from `from` on, with b and o
+pub record Met (s a m : List ℕ) (from j k i p : ℕ) (b : List (List ℕ)) (o : List (List (List ℕ))) : Type 0 where
+  pub holds : Holds s a m j k
+  pub c : List (List ℕ)
+  pub d : List (List (List ℕ))
+  pub hidden : Hidden (holds .inner) (holds .outer) i c d
+  pub agrees : (r : Bool) → Finds no-more s p c d r → Finds no-more s from b o r
+
+pub record Meeting (s a m : List ℕ) (top n from j k i p : ℕ) : Type 0 where
+  pub low : i ≤ p
+  pub high : p ≤ length s
+  pub is : (b : List (List ℕ)) (o : List (List (List ℕ))) → Held s a m top n b o → Met s a m from j k i p b o
+
+pub meeting-start : {s a m : List ℕ} (top n : ℕ) {from : ℕ} → from ≤ length s → Meeting s a m top n from top n 0 from
+meeting-start top n h = record {
   low = omega arith;
   high = h;
-  is = λ ms m. record { block = []; stands = empty; rest = ms; here = m; agrees = sym (ap (λ (t : Bool). t || repeated (namesOf ms)) (crosses-none (namesOf ms))) };
+  is = λ b o y. record { holds = record { inner = b; outer = o; held = y }; c = b; d = o; hidden = plain; agrees = λ r f. f };
 }
 
-pub full : {s : List ℕ} {d from : ℕ} {a : List ℕ} {k j p : ℕ} → k ≡ j → Filling s d from a k p → Filling s d from a j p
-full {s} {d} {from} {a} {k} {j} {p} e h = subst (λ (i : ℕ). Filling s d from a i p) e h
+module _ {s a m : List ℕ} {top n from j k i p : ℕ} (mt : Meeting s a m top n from j k i p) where
+  pub meeting-holds : Holds s a m top n → Holds s a m j k
+  meeting-holds h = mt .is (h .inner) (h .outer) (h .held) .holds
 
--- the answer is no place past the block
-no-past : {B : Type 0} {e : End} → Twice ≡ Past e → B
-no-past e = absurd (let z : _≡_ {A = ℕ} 0 1 = cc in omega arith)
+  pub meeting-last : NoMarks s p → Meets s a m top n from false
+  meeting-last h = record { is = λ b o y. let t = mt .is b o y in t .agrees false (finds-none (t .c) (t .d) h) }
 
-module _ {s : List ℕ} {from : ℕ} (d : ℕ) {a : List ℕ} {k p : ℕ} (fl : Filling s d from a k p) where
-  -- the name at p is in the block
-  pub filling-found : (i : ℕ) → i < k → sameText s (p + 1) s (getD a i 0) ≡ true → Searched s from d Twice
-  unfolding crosses names plain
-  filling-found i l t = record { later = λ q e. no-past e; is = λ ms m. let f = fl .is ms m in go ms f (f .rest) (f .here) (f .agrees) }
-    where
-      go : (ms : LMembers) (f : Filled s d a k p ms) (rest : LMembers) → MembersAt s p d rest
-          → repeated (namesOf ms) ≡ crosses (f .block) (namesOf rest) || repeated (namesOf rest) → repeated (namesOf ms) ≡ true
-      go ms f lnil h e = no-members d h
-      go ms f (lcons (named x y n v) r) h e =
-          e ∙ ap (λ (z : Bool). (z || crosses (f .block) (namesOf r)) || repeated (n ∷ namesOf r)) (found s (f .stands) i (p + 1) l n (first-name d x y n v r h) t)
-
-  -- the block is full, and is compared with the names from p on
-  module _ {t : Bool} (h : Meets s a k s p d t) where
-    pub filling-met : t ≡ true → Searched s from d Twice
-    filling-met e = record {
-      later = λ q c. no-past c;
-      is = λ ms m.
-          let f = fl .is ms m in
-          f .agrees ∙ ap (λ (z : Bool). z || repeated (namesOf (f .rest))) (sym (h .is (f .block) (f .rest) (f .stands) (f .here)) ∙ e);
+  module _ {q e : ℕ} (h : NameShown s p q e) where
+    passed : ((b : List (List ℕ)) (o : List (List (List ℕ))) (t : Met s a m from j k i p b o) → among (h .text) (t .c) ≡ false) → Meeting s a m top n from j k i e
+    passed w = record {
+      low = omega (arith, mt .low, h .shows .later);
+      high = h .shows .high;
+      is = λ b o y.
+          let t = mt .is b o y in
+          record { holds = t .holds; c = t .c; d = t .d; hidden = t .hidden; agrees = λ r f. t .agrees r (finds-new (t .c) (t .d) h (w b o t) f) };
     }
 
-    pub filling-past : t ≡ false → 0 < k → Searched s from d (Past (At p))
-    filling-past e l = record {
-      later = λ q c. let z : p ≡ q = cc in (omega (arith, fl .low), omega (arith, fl .high));
-      is = λ ms m.
-          let f = fl .is ms m in
-          (f .rest, f .here, f .agrees ∙ ap (λ (z : Bool). z || repeated (namesOf (f .rest))) (sym (h .is (f .block) (f .rest) (f .stands) (f .here)) ∙ e));
-    }
+    -- a name of an object of which names are held
+    module _ (z : i ≡ 0) where
+      pub meeting-found : (x : ℕ) → j ≤ x → x < k → sameText s q s (getD a x 0) ≡ true → Meets s a m top n from true
+      meeting-found x u l f = record {
+        is = λ b o y.
+            let t = mt .is b o y in
+            t .agrees true (finds-known (t .c) (t .d) h (ap (among (h .text)) (at-plain (t .hidden) z) ∙ found (held-names (t .holds .held)) x q u l (h .text) (h .stands) f));
+      }
 
-  module _ {r : Entry} (w : Without s a k s (p + 1)) (en : EntryAt s p d r) where
-    -- the name at p joins the block
-    pub filling-next : {q : ℕ} → r .next ≡ At q → k < length a → Filling s d from (set a k (p + 1)) (k + 1) q
-    unfolding names plain
-    filling-next {q} e l = record {
-      low = omega (arith, fl .low, en .later q e .0);
-      high = en .later q e .1;
-      is = λ ms m. let f = fl .is ms m in go ms f (f .rest) (f .here) (f .agrees);
-    }
-      where
-        go : (ms : LMembers) (f : Filled s d a k p ms) (rest : LMembers) → MembersAt s p d rest
-            → repeated (namesOf ms) ≡ crosses (f .block) (namesOf rest) || repeated (namesOf rest) → Filled s d (set a k (p + 1)) (k + 1) q ms
-        go ms f lnil h c = no-members d h
-        go ms f (lcons (named x y n (item u v z)) o) h c =
-            let nm = first-name d x y n (item u v z) o h in
-            record {
-              block = n ∷ f .block;
-              stands = subst (λ (j : ℕ). Block s (set a k (p + 1)) j (n ∷ f .block)) (sym (add-one k))
-                  (one-more (subst (λ (j : ℕ). NameAt s j n) (sym (getD-set-same a k (p + 1) 0 l)) nm) (kept (f .stands) k (p + 1) (omega arith)));
-              rest = o;
-              here = subst (λ (j : End). MembersFrom s d j o) e (en .is x y n u v z o h .2);
-              agrees = c ∙ joins n (f .block) (namesOf o) (w .is n (f .block) (f .stands) nm);
-            }
+      pub meeting-name : Without s a m j k q → Meeting s a m top n from j k i e
+      meeting-name w = passed λ b o t. ap (among (h .text)) (at-plain (t .hidden) z) ∙ w .is (h .text) (t .holds .inner) (held-names (t .holds .held)) (h .stands)
 
-    -- no members are left
-    pub filling-last : r .next ≡ Bad → Searched s from d (Past Bad)
-    unfolding names plain crosses repeated
-    filling-last e = record {
-      later = λ q c. absurd (let z : _≡_ {A = ℕ} 0 1 = cc in omega arith);
-      is = λ ms m. let f = fl .is ms m in go ms f (f .rest) (f .here) (f .agrees);
-    }
-      where
-        go : (ms : LMembers) (f : Filled s d a k p ms) (rest : LMembers) → MembersAt s p d rest
-            → repeated (namesOf ms) ≡ crosses (f .block) (namesOf rest) || repeated (namesOf rest) → (zs : LMembers) × (zs ≡ lnil) × (repeated (namesOf ms) ≡ repeated (namesOf zs))
-        go ms f lnil h c = no-members d h
-        go ms f (lcons (named x y n (item u v z)) o) h c =
-            let nm = first-name d x y n (item u v z) o h in
-            let o-is : o ≡ lnil = subst (λ (j : End). MembersFrom s d j o) e (en .is x y n u v z o h .2) in (
-              o,
-              o-is,
-              c ∙ joins n (f .block) (namesOf o) (w .is n (f .block) (f .stands) nm)
-                  ∙ ap (λ (j : LMembers). crosses (n ∷ f .block) (namesOf j) || repeated (namesOf o)) o-is,
-            )
+    -- and of another
+    pub meeting-inner : (i ≡ 0 → ⊥) → Meeting s a m top n from j k i e
+    unfolding among
+    meeting-inner z = passed λ b o t. ap (among (h .text)) (at-deeper (t .hidden) z)
 
--- WHEN IT IS FULL: the names from p on in t are compared with it
-
-module _ {s : List ℕ} (t : List ℕ) {a : List ℕ} {k : ℕ} (p d : ℕ) where
-  pub meets-found : (i : ℕ) → i < k → sameText t (p + 1) s (getD a i 0) ≡ true → Meets s a k t p d true
-  unfolding crosses names plain
-  meets-found i l e = record { is = go }
-    where
-      go : (b : List (List ℕ)) (ms : LMembers) → Block s a k b → MembersAt t p d ms → true ≡ crosses b (namesOf ms)
-      go b lnil bl h = no-members d h
-      go b (lcons (named x y n v) o) bl h = sym (ap (λ (z : Bool). z || crosses b (namesOf o)) (found t bl i (p + 1) l n (first-name d x y n v o h) e))
-
-module _ {s a : List ℕ} {k : ℕ} {t : List ℕ} {p : ℕ} (d : ℕ) {r : Entry} (w : Without s a k t (p + 1)) (en : EntryAt t p d r) where
-  pub meets-next : {q : ℕ} {c : Bool} → r .next ≡ At q → Meets s a k t q d c → Meets s a k t p d c
-  unfolding crosses names plain
-  meets-next {q} {c} e m = record { is = go }
-    where
-      go : (b : List (List ℕ)) (ms : LMembers) → Block s a k b → MembersAt t p d ms → c ≡ crosses b (namesOf ms)
-      go b lnil bl h = no-members d h
-      go b (lcons (named x y n (item u v z)) o) bl h =
-          m .is b o bl (subst (λ (j : End). MembersFrom t d j o) e (en .is x y n u v z o h .2))
-          ∙ sym (ap (λ (i : Bool). i || crosses b (namesOf o)) (w .is n b bl (first-name d x y n (item u v z) o h)))
-
-  pub meets-last : r .next ≡ Bad → Meets s a k t p d false
-  unfolding crosses names plain
-  meets-last e = record { is = go }
-    where
-      go : (b : List (List ℕ)) (ms : LMembers) → Block s a k b → MembersAt t p d ms → false ≡ crosses b (namesOf ms)
-      go b lnil bl h = no-members d h
-      go b (lcons (named x y n (item u v z)) o) bl h =
-          let o-is : o ≡ lnil = subst (λ (j : End). MembersFrom t d j o) e (en .is x y n u v z o h .2) in
-          sym (ap₂ (λ (i : Bool) (j : LMembers). i || crosses b (namesOf j)) (w .is n b bl (first-name d x y n (item u v z) o h)) o-is)
-
--- BLOCK BY BLOCK
-
-module _ {s : List ℕ} {p : ℕ} (d : ℕ) where
-  pub searched : {x y : Search} → Searched s p d x → x ≡ y → Searched s p d y
-  searched h e = subst (λ (z : Search). Searched s p d z) e h
-
-  pub names-twice : Searched s p d Twice → NamesTwice s p d true
-  names-twice h = record { is = λ ms m. sym (h .is ms m) }
-
-  pub names-once : Searched s p d (Past Bad) → NamesTwice s p d false
-  unfolding names plain repeated
-  names-once h = record { is = λ ms m. let z = h .is ms m in sym (z .2 ∙ ap (λ (o : LMembers). repeated (namesOf o)) (z .1)) }
-
-  pub names-on : {q : ℕ} {r : Bool} → Searched s p d (Past (At q)) → NamesTwice s q d r → NamesTwice s p d r
-  names-on h n = record { is = λ ms m. let z = h .is ms m in n .is (z .0) (z .1) ∙ sym (z .2) }
-
--- AN OBJECT
-
-module _ {s : List ℕ} {from p : ℕ} (d : ℕ) (w : SkipsTo s from p) where
-  abbrev twice-at : ℕ → List ℕ → Bool
-  twice-at n x = namesTwice (readMembers n d x)
-
-  pub object-out : length s ≤ p → ObjectTwice s from d false
-  object-out h = record { is = λ n l. sym (ap (twice-at n) (w .is ∙ drop-of-length-le s h)) }
-
-  -- a closing brace comes first
-  pub object-closed : p < length s → getD s p 0 ≡ 0x7D → ObjectTwice s from d false
-  object-closed h e = record { is = λ n l. sym (ap (twice-at n) (w .is ∙ at-byte s p h ∙ ap (λ (b : ℕ). b ∷ drop (p + 1) s) e)) }
-
-  -- no name stands twice: also where the members are not read to their end
-  pub object-once : NamesTwice s p d false → ObjectTwice s from d false
-  object-once h = record { is = λ n l. go n l (readMembers n d (drop p s)) refl ∙ ap (twice-at n) (sym (w .is)) }
-    where
-      go : (n : ℕ) → length (drop from s) ≤ n → (g : Got LMembers) → readMembers n d (drop p s) ≡ g → false ≡ namesTwice (readMembers n d (drop p s))
-      go n l bad e = sym (ap namesTwice e)
-      go n l (got ms x) e = h .is ms (record { fuel = n; enough = shorter s from p n (w .low) l; left = x; reads = e }) ∙ sym (ap namesTwice e)
-
-  -- two names are equal, and the members are read to their end
-  pub object-twice : {r : Bool} {e : ℕ} → NamesTwice s p d r → MembersEnd s p d (At e) → ObjectTwice s from d r
-  object-twice {r} {e} h m = record {
-    is = λ n l.
-        let c = shorter s from p n (w .low) l in
-        let k = given m n c in
-        h .is (k .0) (record { fuel = n; enough = c; left = drop e s; reads = k .1 }) ∙ sym (ap (twice-at n) (w .is) ∙ ap namesTwice (k .1));
+  pub meeting-opens : {e : ℕ} → Shows s p e (opens ∷ []) → Meeting s a m top n from j k (i + 1) e
+  meeting-opens h = record {
+    low = omega (arith, mt .low, h .later);
+    high = h .high;
+    is = λ b o y.
+        let t = mt .is b o y in
+        record { holds = t .holds; c = []; d = t .c ∷ t .d; hidden = rw add-one (deeper (t .hidden)); agrees = λ r f. t .agrees r (finds-opens (t .c) (t .d) h f) };
   }
 
-  pub object-bad : MembersEnd s p d Bad → ObjectTwice s from d false
-  object-bad m = record { is = λ n l. sym (ap (twice-at n) (w .is) ∙ ap namesTwice (none m n (shorter s from p n (w .low) l))) }
+  module _ {e : ℕ} (h : Shows s p e (closes ∷ [])) where
+    pub meeting-out : (i ≡ 0 → ⊥) → Meeting s a m top n from j k (i - 1) e
+    meeting-out z = record {
+      low = omega (arith, mt .low, h .later);
+      high = h .high;
+      is = λ b o y.
+          let t = mt .is b o y in
+          record { holds = t .holds; c = around (t .d); d = beyond (t .d); hidden = hidden-out (t .hidden) z; agrees = λ r f. t .agrees r (finds-closes (t .c) (t .d) h f) };
+    }
 
--- THE SCAN of the text from a place on
+    -- back to the object around, where it is held or not
+    closed : {j′ k′ : ℕ} → i ≡ 0 → ((b : List (List ℕ)) (o : List (List (List ℕ))) → Held s a m j k b o → Held s a m j′ k′ (around o) (beyond o)) → Meeting s a m top n from j′ k′ i e
+    closed z g = record {
+      low = omega (arith, mt .low, h .later);
+      high = h .high;
+      is = λ b o y.
+          let t = mt .is b o y in
+          record {
+            holds = record { inner = around (t .holds .outer); outer = beyond (t .holds .outer); held = g (t .holds .inner) (t .holds .outer) (t .holds .held) };
+            c = around (t .d);
+            d = beyond (t .d);
+            hidden = hidden-held (t .hidden) z;
+            agrees = λ r f. t .agrees r (finds-closes (t .c) (t .d) h f);
+          };
+    }
 
-pub scan-out : {s : List ℕ} {at : ℕ} (d : ℕ) → length s ≤ at → TwiceFrom s at d false
-unfolding scan
-scan-out {s} {at} d h = record { is = go }
-  where
-    go : (n : ℕ) → length (drop at s) ≤ n → false ≡ scan n d (drop at s)
-    go zero l = refl
-    go (suc n) l = sym (ap (scan (suc n) d) (drop-of-length-le s h))
+    pub meeting-bare : i ≡ 0 → j ≡ 0 → Meeting s a m top n from j 0 i e
+    meeting-bare z c = closed z (λ b o y. held-bare y c)
 
-module _ (s : List ℕ) (at d : ℕ) (h : at < length s) where
-  -- by its first byte, with one less of fuel for the others
-  by-byte : (r : Bool) → ((m : ℕ) → length (drop (at + 1) s) ≤ m → r ≡ scan (suc m) d (getD s at 0 ∷ drop (at + 1) s)) → TwiceFrom s at d r
-  by-byte r k = record {
-    is = λ n l.
-        fuel (λ m. r ≡ scan m d (drop at s)) n (length (drop (at + 1) s)) (omega (arith, left s at h)) λ m j.
-        k m j ∙ sym (ap (scan (suc m) d) (at-byte s at h));
-  }
+    pub meeting-closes : i ≡ 0 → (j ≡ 0 → ⊥) → Meeting s a m top n from (getD a (j - 1) 0) (j - 1) i e
+    meeting-closes z c = closed z (λ b o y. held-closes y c)
 
-  pub scan-past : {e : ℕ} {r : Bool} → getD s at 0 ≡ 0x22 → StringEnds s (at + 1) (At e) → TwiceFrom s e d r → TwiceFrom s at d r
-  unfolding StringEnds scan
-  scan-past {e} {r} b k rest = by-byte r (λ m j.
-      let a = ends-at s (at + 1) e (readChars m (drop (at + 1) s)) (k m j) in
-      rest .is m (shorter s (at + 1) e m (a .2) j) ∙ sym (ap (scan-string (λ y. scan m d y)) (a .1)) ∙ sym (rw b))
+-- PASS BY PASS
 
-  pub scan-broken : getD s at 0 ≡ 0x22 → StringEnds s (at + 1) Bad → TwiceFrom s at d false
-  unfolding StringEnds scan
-  scan-broken b k = by-byte false (λ m j. sym (ap (scan-string (λ y. scan m d y)) (ends-bad s (at + 1) (readChars m (drop (at + 1) s)) (k m j))) ∙ sym (rw b))
+-- the places that are left to a search
+abbrev pub left : List ℕ → Search → ℕ
+left s Twice = 0
+left s (Past Bad) = 0
+left s (Past (At q)) = suc (length s - q)
 
-  pub scan-found : {t : Bool} → getD s at 0 ≡ 0x7B → ObjectTwice s (at + 1) d t → t ≡ true → TwiceFrom s at d true
-  unfolding scan
-  scan-found {t} b k e = by-byte true (λ m j. sym (rw (b, ← (k .is m j), e)))
+module _ (s : List ℕ) (p : ℕ) {x : Search} (h : Searched s p x) where
+  searched : {y : Search} → x ≡ y → Searched s p y
+  searched e = subst (λ (z : Search). Searched s p z) e h
 
-  pub scan-object : {t r : Bool} → getD s at 0 ≡ 0x7B → ObjectTwice s (at + 1) d t → t ≡ false → TwiceFrom s (at + 1) d r → TwiceFrom s at d r
-  unfolding scan
-  scan-object {t} {r} b k e rest = by-byte r (λ m j. rest .is m j ∙ sym (rw (b, ← (k .is m j), e)))
+  pub twice : x ≡ Twice → TwiceFrom s p true
+  unfolding Searched
+  twice e = searched e
 
-  pub scan-other : {r : Bool} → (getD s at 0 ≡ 0x22 → ⊥) → (getD s at 0 ≡ 0x7B → ⊥) → TwiceFrom s (at + 1) d r → TwiceFrom s at d r
-  unfolding scan
-  scan-other {r} b c rest = by-byte r (λ m j. rest .is m j ∙ sym (rw (ne-eqb (getD s at 0) 0x22 b, ne-eqb (getD s at 0) 0x7B c)))
+  pub once : x ≡ Past Bad → TwiceFrom s p false
+  unfolding Searched
+  once e = searched e
+
+  past : {q : ℕ} → x ≡ Past (At q) → (p < q) × (q ≤ length s) × ((r : Bool) → TwiceFrom s q r → TwiceFrom s p r)
+  unfolding Searched
+  past e = searched e
+
+  -- a search that goes on at q
+  module _ {q : ℕ} (e : x ≡ Past (At q)) where
+    pub within-text : q ≤ length s
+    within-text = past e .1
+
+    pub on : (y : Search) → Searched s q y → Searched s p y × (left s y < left s x)
+    unfolding Searched
+    on Twice k = (past e .2 true k, rw e (omega arith))
+    on (Past Bad) k = (past e .2 false k, rw e (omega arith))
+    on (Past (At z)) k = ((omega (arith, past e .0, k .0), k .1, λ r f. past e .2 r (k .2 r f)), rw e (omega (arith, k .0, k .1)))

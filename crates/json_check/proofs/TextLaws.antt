@@ -19,13 +19,13 @@ module _ (d : ℕ) (s : List ℕ) where
   unfolding isText
   text-other e f = rw (sym e ∙ f)
 
-  module _ {b t : Bool} (e : b ≡ isText d s) (f : b ≡ true) (w : TwiceFrom s 0 d t) where
+  module _ {b t : Bool} (e : b ≡ isText d s) (f : b ≡ true) (w : TwiceFrom s 0 t) where
     twice-is : first (grammarTests d s) ≡ first (8 when t ∷ [])
     unfolding isText
     twice-is =
         let r = text-read d s (sym e ∙ f) in
         let z : twiceIn (membersIn (read d s)) ≡ t =
-        ap (λ (g : Got LMembers). twiceIn (membersIn g)) (r .2) ∙ sym (scan-read (length s) d d s (r .0) (r .1) (r .2) (omega arith) (omega arith))
+        ap (λ (g : Got LMembers). twiceIn (membersIn g)) (r .2) ∙ sym (scan-read (length s) d s (r .0) (r .1) (r .2) (omega arith))
         ∙ sym (w .is (length s) (omega arith)) in
         rw (sym e ∙ f, z)
 

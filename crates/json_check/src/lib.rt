@@ -1,4 +1,5 @@
 // Whether a text is one JSON object within a depth, and whether an object in it has a name twice.
+mod marks; // marks.rt: what a text has of objects
 mod names; // names.rt: names that stand twice in one object
 
 use crate::names::twice_from;
@@ -16,7 +17,7 @@ pub fn check_text(s: &[u8], depth: usize) -> u8
     ensures { λ r. ⌜ r ≡ first (grammarTests depth (now (s .entry))) ⌝ }
 {
     if text(s, depth) {
-        if twice_from(s, 0, depth) {
+        if twice_from(s, 0) {
             return NAME_TWICE;
         }
         return DONE;

@@ -1,6 +1,5 @@
 -- With fuel that is enough, a reader gives the same whatever the fuel; and it leaves the end of what it was given, with some bytes taken.
 use mathlib.Core.Path.{_≡_, refl, sym, ap, _∙_, subst}
-use mathlib.Core.Logic.{⊎-elim}
 use mathlib.Core.Bool.{Bool, true, false}
 use mathlib.Core.List.{List, [], _∷_}
 use Prim.Native.Nat.{ℕ, zero, suc, _≤_, _<_}
@@ -11,11 +10,10 @@ use borrow.Author.Tests.{eqb-true}
 use Rattle.json_grammar_rules.specs.Value.{LItem, LMember, stringL, arrayL, objectL, item, named}
 use Rattle.json_grammar_rules.specs.Reader.{Got, bad, got, then, over, one-by, one, ws, deeper, placedItem, ValueLead, quoteLead, bracketLead, braceLead, trueLead, falseLead, nullLead, numberLead, valueLead}
 use Rattle.json_grammar_rules.specs.Reader.{value-by, readValue, readMoreElements, readMoreMembers}
-use Rattle.json_grammar_rules.specs.ReaderLaws.{no-bad}
-use Rattle.json_grammar_rules.specs.Sequences.{Sequence, sequence, members, elements, list-inv, more-inv, member-inv}
-use Rattle.json_grammar_rules.specs.Levels.{readBare, readMember, readMembers}
+use Rattle.json_grammar_rules.specs.Sequences.{Sequence, sequence, members, elements, member-inv}
+use Rattle.json_grammar_rules.specs.Levels.{readBare, readMember}
 use Rattle.json_grammar_rules.specs.CharLaws.{chars-fuel}
-use Rattle.json_grammar_rules.specs.Endings.{Ending, shorter-ending, ending-of, ending-byte, ending-ws, value-read, chars-leave, colon-ends}
+use Rattle.json_grammar_rules.specs.Endings.{Ending, shorter-ending, ending-of, ending-ws, value-read, chars-leave, colon-ends}
 
 -- a reader of which both hold
 pub record Steady {A : Type 0} (f : ℕ → List ℕ → Got A) : Type 0 where
@@ -52,34 +50,6 @@ value-leaves n d x (item a b v) r e = value-read n d x a b v r e .leaves
 
 member-leaves : (n d : ℕ) (x : List ℕ) (m : LMember) (r : List ℕ) → readMember n d x ≡ got m r → Ending x r
 member-leaves n d x m r e = let i = member-inv n d x m r e in ending-of (colon-ends i) (value-leaves n d (i .colon) (i .value) r (i .reads))
-
-module _ {A B : Type 0} {nothing : A} {cons : B → A → A} {one : ℕ → ℕ → List ℕ → Got B} {inside more : ℕ → ℕ → List ℕ → Got A} {close : ℕ}
-    (q : Sequence nothing cons one inside more close) (leaves : (n d : ℕ) (x : List ℕ) (b : B) (r : List ℕ) → one n d x ≡ got b r → Ending x r) where
-  -- from what is known of what follows one
-  list-left : (n d : ℕ) → ((x : List ℕ) (a : A) (r : List ℕ) → more n d x ≡ got a r → Ending x r × (length r < length x))
-      → (x : List ℕ) (a : A) (r : List ℕ) → sequence cons one more n d x ≡ got a r → Ending x r × (length r < length x)
-  list-left n d more-left x a r e =
-      let i = list-inv q n d x a r e in
-      let o = leaves n d x (i .0) (i .1) (i .3) in
-      let m = more-left (i .1) (i .2) r (i .4) in
-      (ending-of o (m .0), omega (arith, m .1, shorter-ending o))
-
-  more-leaves : (n d : ℕ) (x : List ℕ) (a : A) (r : List ℕ) → more n d x ≡ got a r → Ending x r × (length r < length x)
-  more-leaves zero d x a r e = no-bad (sym (q .more-zero d x) ∙ e)
-  more-leaves (suc n) d x a r e = ⊎-elim last (next (λ y b z. more-leaves n d y b z)) (more-inv q n d x a r e)
-    where
-      last : (x ≡ close ∷ r) × (a ≡ nothing) → Ending x r × (length r < length x)
-      last i = subst (λ (z : List ℕ). Ending z r × (length r < length z)) (sym (i .0)) (ending-byte close r, omega arith)
-
-      next : ((y : List ℕ) (b : A) (z : List ℕ) → more n d y ≡ got b z → Ending y z × (length z < length y))
-          → (y : List ℕ) × (x ≡ 0x2C ∷ y) × (sequence cons one more n d (ws y) ≡ got a r) → Ending x r × (length r < length x)
-      next f i =
-          let l = list-left n d f (ws (i .0)) a r (i .2) in
-          subst (λ (z : List ℕ). Ending z r × (length r < length z)) (sym (i .1))
-          (ending-of (ending-byte 0x2C (i .0)) (ending-of (ending-ws (i .0)) (l .0)), omega (arith, l .1, shorter-ending (ending-ws (i .0))))
-
-  list-leaves : (n d : ℕ) (x : List ℕ) (a : A) (r : List ℕ) → sequence cons one more n d x ≡ got a r → Ending x r × (length r < length x)
-  list-leaves n d = list-left n d (more-leaves n d)
 
 -- THE SAME WITH ANY FUEL, of sequences from what is known of one and of what follows it
 
@@ -180,9 +150,3 @@ member-fuel n m = member-same n m (same n m)
 -- a value from its first byte on, with fuel for the others
 pub bare-fuel : (n m d : ℕ) (x : List ℕ) → length x ≤ suc n → length x ≤ suc m → readBare n d x ≡ readBare m d x
 bare-fuel n m = bare-same n m (same n m)
-
-pub members-steady : (d : ℕ) → Steady (λ n x. readMembers n d x)
-members-steady d = record {
-  leaves = λ n. list-leaves members member-leaves n d;
-  fuel = λ n m. list-fuel members member-leaves n m (member-same n m (same n m)) (same n m .members) d;
-}

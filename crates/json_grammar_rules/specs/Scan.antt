@@ -1,33 +1,70 @@
--- Names that stand twice, found by one pass over the bytes: strings are passed over, and at each opening brace the object's own names are looked at.
+-- Names that stand twice, found in one pass over the bytes: it sees where objects open and close, and their names.
 use mathlib.Core.Bool.{Bool, true, false, _||_}
 use mathlib.Core.List.{List, [], _∷_}
 use Prim.Native.Nat.{ℕ, zero, suc}
 use lib.Dec.{eqb}
-use Rattle.json_grammar_rules.specs.Value.{repeated, names, LMembers, plainMembers}
+use Rattle.json_grammar_rules.specs.Value.{among}
 use Rattle.json_grammar_rules.specs.Reader.{Got, bad, got, ws, readChars}
-use Rattle.json_grammar_rules.specs.Levels.{readMembers}
 
--- a name stands twice among the members that were read; none does where none were
-abbrev pub namesTwice : Got LMembers → Bool
-namesTwice bad = false
-namesTwice (got ms r) = repeated (names (plainMembers ms))
+-- THE MARKS of a text, in order: what it has of objects
+pub data Mark : Type 0 where
+  opens closes : Mark
+  name : List ℕ → Mark
 
--- past a string
-abbrev pub scan-string : (List ℕ → Bool) → Got (List ℕ) → Bool
-scan-string below bad = false
-scan-string below (got cs r) = below r
+-- a colon comes next: the string before it is a name
+abbrev pub colonNext : List ℕ → Bool
+colonNext [] = false
+colonNext (b ∷ s) = eqb b 0x3A
 
--- a byte that is a quotation mark, an opening brace, or neither, before s
-abbrev pub scan-by : (List ℕ → Bool) → ℕ → ℕ → Bool → Bool → List ℕ → Bool
-scan-by below n d true brace s = scan-string below (readChars n s)
-scan-by below n d false true s = namesTwice (readMembers n d (ws s)) || below s
-scan-by below n d false false s = below s
+abbrev pub marks-name : Bool → List ℕ → List Mark → List Mark
+marks-name true cs ms = name cs ∷ ms
+marks-name false cs ms = ms
 
-abbrev pub scan-step : (List ℕ → Bool) → ℕ → ℕ → List ℕ → Bool
-scan-step below n d [] = false
-scan-step below n d (b ∷ s) = scan-by below n d (eqb b 0x22) (eqb b 0x7B) s
+-- a string that was read, or that breaks off
+abbrev pub marks-string : (List ℕ → List Mark) → Got (List ℕ) → List Mark
+marks-string below bad = []
+marks-string below (got cs r) = marks-name (colonNext (ws r)) cs (below r)
 
--- fuel n, enough where it is at least the number of bytes; each object's members are read with the depth d
-unfoldable pub scan : ℕ → ℕ → List ℕ → Bool
-scan zero d s = false
-scan (suc n) d s = scan-step (λ r. scan n d r) n d s
+-- a byte that is a quotation mark, an opening brace, a closing one, or none of them, before s
+abbrev pub marks-by : (List ℕ → List Mark) → ℕ → Bool → Bool → Bool → List ℕ → List Mark
+marks-by below n true o c s = marks-string below (readChars n s)
+marks-by below n false true c s = opens ∷ below s
+marks-by below n false false true s = closes ∷ below s
+marks-by below n false false false s = below s
+
+abbrev pub marks-step : (List ℕ → List Mark) → ℕ → List ℕ → List Mark
+marks-step below n [] = []
+marks-step below n (b ∷ s) = marks-by below n (eqb b 0x22) (eqb b 0x7B) (eqb b 0x7D) s
+
+-- fuel n, enough where it is at least the number of bytes
+unfoldable pub marks : ℕ → List ℕ → List Mark
+marks zero s = []
+marks (suc n) s = marks-step (λ r. marks n r) n s
+
+-- THE SEARCH: b has the names so far of the innermost object, the last one first, and o those of the objects around it, from the inside out
+
+abbrev pub around : List (List (List ℕ)) → List (List ℕ)
+around [] = []
+around (b ∷ o) = b
+
+abbrev pub beyond : List (List (List ℕ)) → List (List (List ℕ))
+beyond [] = []
+beyond (b ∷ o) = o
+
+-- a name is among those before it in its object; `kept` says how a name joins them
+unfoldable pub search : (List ℕ → List (List ℕ) → List (List ℕ)) → List (List ℕ) → List (List (List ℕ)) → List Mark → Bool
+search kept b o [] = false
+search kept b o (opens ∷ ms) = search kept [] (b ∷ o) ms
+search kept b o (closes ∷ ms) = search kept (around o) (beyond o) ms
+search kept b o (name n ∷ ms) = among n b || search kept (kept n b) o ms
+
+-- .. each one joins them: whether some object has a name twice
+abbrev pub every : List ℕ → List (List ℕ) → List (List ℕ)
+every n b = n ∷ b
+
+-- .. none does: whether a name is among those that were there
+abbrev pub no-more : List ℕ → List (List ℕ) → List (List ℕ)
+no-more n b = b
+
+abbrev pub scan : ℕ → List ℕ → Bool
+scan n s = search every [] [] (marks n s)

@@ -56,9 +56,6 @@ ObjectEnds s from d r = EndsBy (λ n x. readObject n d x) s from from r
 abbrev pub MembersEnd : List ℕ → ℕ → ℕ → End → Type 0
 MembersEnd s from d r = EndsBy (λ n x. readMembers n d x) s from from r
 
-unfoldable pub memberListEnd : List ℕ → ℕ → ℕ → End
-memberListEnd s from d = endOf s (readMembers (length (drop from s)) d (drop from s))
-
 abbrev pub MemberEnds : List ℕ → ℕ → ℕ → End → Type 0
 MemberEnds s from d r = EndsBy (λ n x. readMember n d x) s from from r
 

@@ -11,12 +11,12 @@ use Rattle.json_grammar_rules.specs.ReaderLaws.{no-bad, expect-inv}
 use Rattle.json_grammar_rules.specs.Written.{value}
 use Rattle.json_grammar_rules.specs.Sound.{bare-found}
 use Rattle.json_grammar_rules.specs.Endings.{Ending, shorter-ending, at-ending, ending-of, ending-drop, ending-byte, ending-ws, yield-leaves, value-read}
-use Rattle.json_grammar_rules.specs.Fuel.{Steady, one-same, value-fuel, bare-fuel, members-steady}
+use Rattle.json_grammar_rules.specs.Fuel.{Steady, one-same, value-fuel, bare-fuel}
 use Rattle.json_string.specs.declared.End.{End}
 use Rattle.json_string.specs.Ends.{at-byte}
-use Rattle.json_tokens.specs.EndsLaws.{earlier, ends-of, is-end}
+use Rattle.json_tokens.specs.EndsLaws.{ends-of, is-end}
 use Rattle.json_reader.specs.declared.values.Span.the-variants.{Between, Nowhere}
-use Rattle.json_reader.specs.Contracts.{readTrimmed, readAfterName, BareEnds, bareEnd, MembersEnd, memberListEnd, spanOf, valueSpan, Spanned}
+use Rattle.json_reader.specs.Contracts.{readTrimmed, readAfterName, BareEnds, bareEnd, spanOf, valueSpan, Spanned}
 use Rattle.json_reader.specs.ValueLaws.{trimmed-kind, no-trimmed}
 
 -- A VALUE FROM ITS FIRST BYTE ON
@@ -42,16 +42,6 @@ bare-ends d e = ends-of (bare-steady d) e
 pub bare-is : {s : List ℕ} {at : ℕ} {r : End} (d : ℕ) → BareEnds s at d r → r ≡ bareEnd s at d
 unfolding bareEnd
 bare-is d h = is-end h
-
--- MEMBERS
-
-pub members-end : {s : List ℕ} {from : ℕ} {r : End} (d : ℕ) → r ≡ memberListEnd s from d → MembersEnd s from d r
-unfolding memberListEnd
-members-end d e = earlier (omega arith) (ends-of (members-steady d) e)
-
-pub members-is : {s : List ℕ} {from : ℕ} {r : End} (d : ℕ) → MembersEnd s from d r → r ≡ memberListEnd s from d
-unfolding memberListEnd
-members-is d h = is-end h
 
 -- THE VALUE OF A MEMBER
 

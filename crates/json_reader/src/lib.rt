@@ -5,7 +5,6 @@ mod objects; // objects.rt: objects
 mod values; // values.rt: values, and the place of a member's value
 mod texts; // texts.rt: the whole text
 
-pub use objects::member_list;
 pub use texts::text;
 pub use values::Span;
 pub use values::bare;

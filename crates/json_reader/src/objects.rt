@@ -3,8 +3,7 @@ use crate::values::value;
 use json_string::End;
 use json_string::string_end;
 use json_tokens::skip_ws;
-ghost use mathlib.Core.Path.{_≡_};
-ghost use Rattle.json_reader.specs.Contracts.{ObjectEnds, memberListEnd, MemberEnds, AfterName};
+ghost use Rattle.json_reader.specs.Contracts.{ObjectEnds, MembersEnd, MemberEnds, AfterName};
 
 // What follows an opening brace, up to the closing one.
 // Rules out a brace that counts for no level, and an empty object at depth 0.
@@ -26,8 +25,8 @@ pub(crate) fn object(s: &[u8], from: usize, depth: usize) -> End
 
 // One member or more, and the closing brace.
 // Rules out a comma before the closing brace, and members with no comma between them.
-pub fn member_list(s: &[u8], from: usize, depth: usize) -> End
-    ensures { λ r. ⌜ r ≡ memberListEnd (now (s .entry)) from depth ⌝ }
+pub(crate) fn member_list(s: &[u8], from: usize, depth: usize) -> End
+    ensures { λ r. ⌜ MembersEnd (now (s .entry)) from depth r ⌝ }
 {
     let mut at = from;
     loop {

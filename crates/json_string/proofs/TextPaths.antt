@@ -16,7 +16,7 @@ use Rattle.json_string.specs.declared.End.the-variants.{At, Bad}
 use Rattle.json_characters.specs.declared.Scan.the-variants.{Code}
 use Rattle.json_characters.specs.Characters.{CharAt}
 use Rattle.json_string.specs.Ends.{endOf, at-byte, pos-drop}
-use Rattle.json_string.specs.Strings.{textAt, stringEnd, given, sameOf, sameText, mix, mixAll, mixedAt, fingerprintAt, textIs}
+use Rattle.json_string.specs.Strings.{textAt, stringEnd, given, sameOf, sameText, mix, mixAll, unmixed, mixedAt, fingerprintAt, textIs}
 use Rattle.json_string.specs.TextLaws.{text-quote, text-step, text-some, given-over, given-same}
 use Rattle.json_characters.specs.Utf8.{utf8}
 use Rattle.json_string.specs.Steps.{OctetsEnd}
@@ -118,8 +118,8 @@ pub fingerprints-differ : (s : List ℕ) (p : ℕ) (t : List ℕ) (q x y : ℕ) 
 unfolding mixedAt sameText
 fingerprints-differ s p t q x y = go (textAt s p) (textAt t q)
   where
-    go : (g k : Got (List ℕ)) → x ≡ given (mixAll 0) 0 g → y ≡ given (mixAll 0) 0 k → (x ≡ y → ⊥) → false ≡ sameOf g k
-    go (got cs r) (got ds r′) e f n = sym (test-false (decides-same cs ds) (λ z. n (e ∙ ap (mixAll 0) z ∙ sym f)))
+    go : (g k : Got (List ℕ)) → x ≡ given (mixAll unmixed) 0 g → y ≡ given (mixAll unmixed) 0 k → (x ≡ y → ⊥) → false ≡ sameOf g k
+    go (got cs r) (got ds r′) e f n = sym (test-false (decides-same cs ds) (λ z. n (e ∙ ap (mixAll unmixed) z ∙ sym f)))
     go (got cs r) bad e f n = refl
     go bad k e f n = refl
 

@@ -11,7 +11,7 @@ use Rattle.json_grammar_rules.specs.Endings.{ending-of, ending-byte}
 use Rattle.json_grammar_rules.specs.Written.{chars, longer}
 use Rattle.json_string.specs.declared.End.{End}
 use Rattle.json_string.specs.Ends.{Ends, endOf, pos-left, by}
-use Rattle.json_string.specs.Strings.{stringEnd, StringEnds, NameAt, textAt, given, sameOf, sameText, mixAll, fingerprintAt, mixedAt, textIs, resolved, resolvedTo, resolvedAt, resolvedToAt}
+use Rattle.json_string.specs.Strings.{stringEnd, StringEnds, NameAt, textAt, given, sameOf, sameText, mixAll, unmixed, fingerprintAt, mixedAt, textIs, resolved, resolvedTo, resolvedAt, resolvedToAt}
 use Rattle.json_characters.specs.Utf8.{utf8, Scalar, Each}
 use Rattle.json_characters.specs.Utf8Laws.{scalar-codes}
 
@@ -23,9 +23,9 @@ module _ (s : List ℕ) (p : ℕ) (cs : List ℕ) (h : NameAt s p cs) where
   name-given : {B : Type 0} (f : List ℕ → B) (d : B) → given f d (textAt s p) ≡ f cs
   name-given f d = ap (given f d) (name-text .1)
 
-  pub name-fingerprint : fingerprintAt s p ≡ mixAll 0 cs
+  pub name-fingerprint : fingerprintAt s p ≡ mixAll unmixed cs
   unfolding mixedAt
-  name-fingerprint = name-given (mixAll 0) 0
+  name-fingerprint = name-given (mixAll unmixed) 0
 
   pub name-is : (w : List ℕ) → textIs s p w ≡ same (utf8 cs) w
   unfolding textIs

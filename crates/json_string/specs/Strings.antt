@@ -2,7 +2,8 @@
 use mathlib.Core.Path.{_≡_}
 use mathlib.Core.Bool.{Bool, false, cond}
 use mathlib.Core.List.{List, [], _∷_}
-use Prim.Native.Nat.{ℕ, _+_, _*_, _%_, _≤_}
+use Prim.Native.Nat.{ℕ, _*_, _/_, _%_, _^_, _≤_}
+use lib.Bits.{bitOr, bitXor}
 use lib.Dec.{leb}
 use lib.ListN.{length, drop}
 use Rattle.common.specs.Buffer.{laid, cleared}
@@ -44,9 +45,13 @@ sameOf bad k = false
 unfoldable pub sameText : List ℕ → ℕ → List ℕ → ℕ → Bool
 sameText s p t q = sameOf (textAt s p) (textAt t q)
 
--- one more code point in a fingerprint, by a multiplicative hash modulo 2^32
+-- A FINGERPRINT of 64 bits. One more code point: the low half, with the code point in it, times a prime; and over that the whole, rotated by half
 abbrev pub mix : ℕ → ℕ → ℕ
-mix h c = (h * 2654435761 + c) % 4294967296
+mix h c = bitXor (bitXor (h % 2 ^ 32) c * 2654435761) (bitOr (h / 2 ^ 32) ((h * 2 ^ 32) % 2 ^ 64))
+
+-- that of no code points: not 0, which a code point 0 would leave
+abbrev pub unmixed : ℕ
+unmixed = 0x9E3779B97F4A7C15
 
 unfoldable pub mixAll : ℕ → List ℕ → ℕ
 mixAll h [] = h
@@ -58,7 +63,7 @@ mixedAt s p h = given (mixAll h) 0 (textAt s p)
 
 -- the fingerprint of the string at p; 0 where no string stands
 abbrev pub fingerprintAt : List ℕ → ℕ → ℕ
-fingerprintAt s p = mixedAt s p 0
+fingerprintAt s p = mixedAt s p unmixed
 
 -- whether a string stands at p that, in UTF-8, is the word w
 unfoldable pub textIs : List ℕ → ℕ → List ℕ → Bool

@@ -1,6 +1,6 @@
 // Strings compared after their escapes are resolved. Each is given by the place of its first character.
 ghost use mathlib.Core.Path.{_≡_};
-ghost use Prim.Native.Nat.{_≤_};
+ghost use Prim.Native.Nat.{_*_, _≤_};
 ghost use lib.ListN.{length};
 ghost use Rattle.json_string.specs.Strings.{sameText, textIs, mix, fingerprintAt};
 ghost use Rattle.json_string.specs.Steps.{OctetsEnd};
@@ -47,20 +47,31 @@ pub fn same_text(s: &[u8], p: usize, t: &[u8], q: usize) -> bool
     false
 }
 
-// Mixes one more code point into a fingerprint.
-fn mixed(h: u32, c: u32) -> u32
-    ensures { λ r. ⌜ r ≡ mix h c ⌝ }
+// The fingerprint of no code points.
+const UNMIXED: u64 = 0x9E3779B97F4A7C15;
+
+fn by_prime(x: u32) -> u64
+    ensures { λ r. ⌜ r ≡ x * 2654435761 ⌝ }
 {
-    ((h as u64 * 2654435761 + c as u64) % 4294967296) as u32
+    x as u64 * 2654435761
 }
 
-// A number that strings with the same code points share, and most others do not; 0 where no string stands. Rules out two numbers
-// for two writings of one character, and a number of the last character alone.
-pub fn fingerprint(s: &[u8], p: usize) -> u32
+// Mixes one more code point into a fingerprint. A hash by multiplying and adding alone is a sum, and other code points with the same sum
+// are found by solving an equation; here each bit of the product meets another of what went before.
+fn mixed(h: u64, c: u32) -> u64
+    ensures { λ r. ⌜ r ≡ mix h c ⌝ }
+{
+    let low = (h % 4294967296) as u32;
+    by_prime(low ^ c) ^ ((h >> 32) | (h << 32))
+}
+
+// A number that strings with the same code points share, and others do not but by chance or by a long search; 0 where no string stands.
+// Rules out two numbers for two writings of one character, and a number of the last character alone.
+pub fn fingerprint(s: &[u8], p: usize) -> u64
     ensures { λ r. ⌜ r ≡ fingerprintAt (now (s .entry)) p ⌝ }
 {
     let mut at = p;
-    let mut h: u32 = 0;
+    let mut h: u64 = UNMIXED;
     while at < s.len() {
         let b = s[at];
         if is_unescaped1(b) {
@@ -82,7 +93,7 @@ pub fn fingerprint(s: &[u8], p: usize) -> u32
 
 // Whether strings stand at p in s and at q in t, of fingerprints f and g, and have the same code points. Rules out strings with one fingerprint
 // taken for different ones, and a string compared with itself.
-pub fn same_by_fingerprint(s: &[u8], p: usize, t: &[u8], q: usize, f: u32, g: u32) -> bool
+pub fn same_by_fingerprint(s: &[u8], p: usize, t: &[u8], q: usize, f: u64, g: u64) -> bool
     requires { ⌜ (f ≡ fingerprintAt (now s) p) × (g ≡ fingerprintAt (now t) q) ⌝ }
     ensures { λ r. ⌜ r ≡ sameText (now (s .entry)) p (now (t .entry)) q ⌝ }
 {

@@ -5,7 +5,7 @@ use native.Mathlib.Omega.{arith}
 use borrow.Author.Needs.{needs}
 use lib.ListN.{length}
 use Rattle.json_tokens.specs.TokenLaws.{skips}
-use Rattle.json_reader.specs.ReadLaws.{bare-is, members-end, members-is}
+use Rattle.json_reader.specs.ReadLaws.{bare-is}
 use Rattle.json_string.specs.declared.End.{End}
 use Rattle.json_reader.specs.Contracts.{ElementsEnd, MembersEnd}
 use Rattle.json_tokens.specs.EndsLaws.{ended, bounds}
@@ -129,11 +129,11 @@ pub +arrays·array+arrays·elements+objects·after-name+objects·member+objects�
     μ-member-list
     (λ c. (omega arith, λ r h. h))
     (λ c κs. omega arith) (λ c. search needs) (λ c. search needs)
-    (λ c. members-is _ (c .before .before .before .loop .inv .1 _ (law.list-bad seq.members _ (ended (c .enum-told .given .1) (c .before .before .member .ensures)))))
-    (λ c. let one = c .before .before in members-is _ (one .before .before .before .loop .inv .1 _ (law.list-out seq.members _ (ended (one .e .given .1) (one .before .before .member .ensures)) (c .if1 .taken))))
+    (λ c. c .before .before .before .loop .inv .1 _ (law.list-bad seq.members _ (ended (c .enum-told .given .1) (c .before .before .member .ensures))))
+    (λ c. let one = c .before .before in one .before .before .before .loop .inv .1 _ (law.list-out seq.members _ (ended (one .e .given .1) (one .before .before .member .ensures)) (c .if1 .taken)))
     (λ c. omega arith) (λ c. omega arith)
-    (λ c. let one = c .before .before .before .before in members-is _ (one .before .before .before .loop .inv .1 _ (law.list-close seq.members _ (ended (one .e .given .1) (one .before .before .member .ensures)) (c .before .before .if1 .left) (c .if2 .taken))))
-    (λ c. let one = c .before .before .before .before .before in members-is _ (one .before .before .before .loop .inv .1 _ (law.list-other seq.members _ (ended (one .e .given .1) (one .before .before .member .ensures)) (c .before .before .before .if1 .left) (c .before .if2 .left) (c .if3 .taken))))
+    (λ c. let one = c .before .before .before .before in one .before .before .before .loop .inv .1 _ (law.list-close seq.members _ (ended (one .e .given .1) (one .before .before .member .ensures)) (c .before .before .if1 .left) (c .if2 .taken)))
+    (λ c. let one = c .before .before .before .before .before in one .before .before .before .loop .inv .1 _ (law.list-other seq.members _ (ended (one .e .given .1) (one .before .before .member .ensures)) (c .before .before .before .if1 .left) (c .before .if2 .left) (c .if3 .taken)))
     (λ c. omega arith) (λ c κs. tt)
     (λ c. let one = c .before .before .before .before .before .before in omega (arith, bounds (ended (one .e .given .1) (one .before .before .member .ensures)) .0, skips (c .skip-ws .ensures) .low))
     (λ c. let one = c .before .before .before .before .before .before in let k = ended (one .e .given .1) (one .before .before .member .ensures) in let w = skips (c .skip-ws .ensures) in (omega (arith, bounds k .0, w .low), λ r h. one .before .before .before .loop .inv .1 r (law.members-comma _ k (c .before .before .before .before .if1 .left) (c .before .if3 .left) w h))))
@@ -147,7 +147,7 @@ pub +arrays·array+arrays·elements+objects·after-name+objects·member+objects�
     (λ c. omega arith) (λ c. omega arith)
     (λ c. let at = c .before .before .before in law.opened-empty seq.members _ (at .before .if1 .left) (skips (at .skip-ws .ensures)) (c .before .before .if2 .left) (c .if3 .taken))
     (λ c. omega arith) (λ c κs. omega (arith, skips (c .before .before .before .skip-ws .ensures) .low))
-    (λ c. let at = c .before .before .before .before in law.opened-some seq.members _ (at .before .if1 .left) (skips (at .skip-ws .ensures)) (c .before .before .before .if2 .left) (c .before .if3 .left) (members-end _ (c .member-list .ensures))))
+    (λ c. let at = c .before .before .before .before in law.opened-some seq.members _ (at .before .if1 .left) (skips (at .skip-ws .ensures)) (c .before .before .before .if2 .left) (c .before .if3 .left) (c .member-list .ensures)))
     -- bare
     (λ t. bare-lts.spec (string-end-reads.Asked, string-end-reads.Learnt, called 3 array.Pre t, array.Post, called 2 object.Pre t, object.Post, word-end-reads.Asked, word-end-reads.Learnt, number-end-reads.Asked, number-end-reads.Learnt)
     (entered 0 bare.Pre t)
