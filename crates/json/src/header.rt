@@ -19,7 +19,7 @@ ghost use Rattle.json_rules.specs.Tests.{checked, memberOf};
 ghost use Rattle.json.specs.Picks.{Picks};
 
 // What a header answers: 5 if it is too long; else what its text answers within the greatest depth.
-// Rules out 7 for a header that is too long, and 0 for one of 1,025 bytes.
+// Rules out 7 for a header that is too long, and 0 for one that is a byte too long.
 pub fn check(header: &[u8]) -> u8
     ensures { λ r. ⌜ r ≡ checked (now (header .entry)) ⌝ }
 {

@@ -22,7 +22,7 @@ use Rattle.json_grammar_rules.specs.Reader.{Got, bad, got, over, skip, i
 use Rattle.json_grammar_rules.specs.Reader.{readValue, read}
 use Rattle.json_grammar_rules.specs.Unique.{not-derived, unique, one-reading}
 
--- what a header reads as, at most 8 deep
+-- what a text reads as, at most 8 deep: a depth for these examples, and not the limit of a header
 unfoldable reading : List ℕ → Got Members
 unfolding read readValue readChars readChar charLead escapeLeadOf pastNumber word valueLead skip isUnescaped1 plain ascii
     within isWs isDigit isDigit19 isE isSign isHex hexVal allHex hex4 isTail code2 code3 code4 isHigh isLow isSurrogate pairCode
@@ -140,7 +140,7 @@ texts : (reading [] ≡ bad) × (reading (ascii "[]") ≡ bad) × (reading (asci
 unfolding reading
 texts = (refl, refl, refl, refl, refl)
 
--- seven arrays nested as a member's value are read, eight are not
+-- at most 8 deep, seven arrays nested as a member's value are read, eight are not
 unfoldable nested : ℕ → List ℕ → List ℕ
 nested zero s = s
 nested (suc n) s = 0x5B ∷ nested n (0x5D ∷ s)

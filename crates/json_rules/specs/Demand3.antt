@@ -1,5 +1,5 @@
--- DEMAND 3, in two lines. `Read h` (Tests): whichever member is asked for, the member call answers 0 or 16. `DerivedOnce h` (Rules): the grammar derives h, at most
--- 8 deep, with no name twice in an object. `member h k (membersOf t)` (json_grammar_rules, Places): kind and places of member k in the derivation t.
+-- DEMAND 3, in two lines. `Read h` (Tests): whichever member is asked for, the member call answers 0 or 16. `DerivedOnce h` (Rules): the grammar derives h, within the
+-- depth, with no name twice in an object. `member h k (membersOf t)` (json_grammar_rules, Places): kind and places of member k in the derivation t.
 use mathlib.Core.Path.{_≡_, sym, _∙_, subst}
 use mathlib.Core.Logic.{_↔_}
 use mathlib.Core.List.{List}
@@ -16,7 +16,7 @@ use Rattle.json_rules.specs.Answers.{answerFor}
 use Rattle.json_rules.specs.Tests.{memberOf, Read}
 use Rattle.json_rules.specs.Promises.{read-short, read-within, member-is}
 
--- a header is read exactly when it has at most 1,024 bytes and the grammar derives it
+-- a header is read exactly when it has at most `longest` bytes and the grammar derives it
 pub read-exactly : (h : List ℕ) → Read h ↔ ((length h ≤ longest) × DerivedOnce h)
 read-exactly h = (λ r. let l = read-short h r in (l, read-within h l .0 r), λ d. read-within h (d .0) .1 (d .1))
 

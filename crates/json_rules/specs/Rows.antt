@@ -16,6 +16,7 @@ use Rattle.json_grammar_rules.specs.Unique.{one-reading, reads-as}
 use Rattle.json_rules.specs.declared.Member.{Member}
 use Rattle.json_rules.specs.declared.Member.the-variants.{Refused, Array}
 use Rattle.json_rules.specs.declared.Member.the-variants.{String as Text}
+use Rattle.json_rules.specs.Rules.{longest, deepest}
 use Rattle.json_rules.specs.Answers.{place, answerFor}
 use Rattle.json_rules.specs.Tests.{headerTests, checked, unlessRefused, memberOf}
 use Rattle.json_rules.specs.Promises.{header-first}
@@ -52,12 +53,19 @@ pub spellings :
     × ((t : Derivation) → bytes t ≡ ascii "{\"alg\":\"HS256\",\"x\":\"\\u00e9\\uD834\\udd1e\"}"
     → readingOf t ≡ mcons (ascii "alg") (stringV (ascii "HS256")) (mcons (ascii "x") (stringV (0xE9 ∷ 0x1D11E ∷ [])) mnil))
 unfolding answers
-spellings = (λ k. refl, refl, reads-as 8 _ _ _ refl)
+spellings = (λ k. refl, refl, reads-as deepest _ _ _ refl)
 
--- "headers of 1,024 bytes, [..] and of 1,025"
+-- BOTH SIDES OF THE LENGTH
 module _ (h : List ℕ) where
-  pub length-passes : length h ≤ 1024 → checked h ≡ 5 → ⊥
+  pub length-passes : length h ≤ longest → checked h ≡ 5 → ⊥
   length-passes l e = let k = header-first h 5 refl .0 e .0 in omega arith
 
-  pub length-refused : 1024 < length h → checked h ≡ 5
+  pub length-refused : longest < length h → checked h ≡ 5
   length-refused l = header-first h 5 refl .1 (l, tt)
+
+  -- "headers of 1,024 bytes, [..] and of 1,025"
+  pub longest-passes : length h ≡ 1024 → checked h ≡ 5 → ⊥
+  longest-passes e = length-passes (omega arith)
+
+  pub longer-refused : length h ≡ 1025 → checked h ≡ 5
+  longer-refused e = length-refused (omega arith)

@@ -21,7 +21,7 @@ deepest = 8
 abbrev pub NameTwice : List ℕ → Type 0
 NameTwice h = (t : Derivation) × (bytes t ≡ h) × TwiceNamed (objectV (readingOf t))
 
--- some derivation of h has depth at most 8 and no name twice in one object
+-- some derivation of h has depth at most `deepest` and no name twice in one object
 abbrev pub DerivedOnce : List ℕ → Type 0
 DerivedOnce h = (t : Derivation) × (bytes t ≡ h) × (depthOf t ≤ deepest) × (TwiceNamed (objectV (readingOf t)) → ⊥)
 

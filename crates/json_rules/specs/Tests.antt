@@ -32,7 +32,7 @@ twiceIn ms = twice (objectV (plainMembers ms))
 abbrev pub grammarTests : ℕ → List ℕ → List Test
 grammarTests d h = 7 when not (isGot (read d h)) ∷ 8 when twiceIn (membersIn (read d h)) ∷ []
 
--- 5: longer than 1,024 bytes; then those of the text, within the greatest depth
+-- 5: longer than `longest`; then those of the text, within the greatest depth
 abbrev pub lengthTest : ℕ → Test
 lengthTest n = 5 when ltb longest n
 

@@ -15,6 +15,7 @@ use Rattle.base64url_rules.specs.Alphabet.{character, value}
 use Rattle.base64url_rules.specs.Base64url.{encode, decode, alphabetic, unusedBits, strict}
 use Rattle.base64url_rules.specs.LengthLaws.{length-encode, encoded-length}
 use Rattle.json_grammar_rules.specs.Written.{derived-bytes}
+use Rattle.json_rules.specs.Rules.{longest}
 use Rattle.keytable_rules.specs.Key.{Key, key}
 use Rattle.keytable_rules.specs.Table.{Wellformed, keys, badTable, below, listed}
 use Rattle.keytable_rules.specs.TableLaws.{wellformed}
@@ -29,7 +30,7 @@ use Rattle.jose_rules.specs.HeaderLaws.{jose-agree, header-chooses, header-byte
 use Rattle.jose_rules.specs.Promises.{distinct}
 use Rattle.jws_rules.specs.Calls.{VerifyCall, verifyOf, SignCall, signOf}
 use Rattle.jws_rules.specs.Segments.{period, periods, front, back, _dot_}
-use Rattle.jws_rules.specs.Token.{macOf, tokenOf, finishedLength, headerOf, secretOf}
+use Rattle.jws_rules.specs.Token.{tokenMost, macOf, tokenOf, finishedLength, headerOf, secretOf}
 use Rattle.jws_rules.specs.TokenLaws.{length-token, mac-bytes, Parts, parts}
 use Rattle.jws_rules.specs.Outcomes.{VerifyOutcome, recordOf, accepted, signedAs}
 use Rattle.jws_rules.specs.Rules.{verifying, signing, Accepted}
@@ -80,7 +81,7 @@ chooses n =
     rw (← r .1) (header-chooses (header n) (termsOf table) d (none-stands (jose-agree (header n) (termsOf table) d) refl .0 (r .0)))
 
 -- EVERY SUCH TOKEN WITHIN THE LIMITS is accepted, whichever buffers its header and payload fit; ..
-module _ (n : ℕ) (p : List ℕ) (bytes : Bytes p) (header-short : 25 + n ≤ 1024) (short : finishedLength (header n) p ≤ 16384) where
+module _ (n : ℕ) (p : List ℕ) (bytes : Bytes p) (header-short : 25 + n ≤ longest) (short : finishedLength (header n) p ≤ tokenMost) where
   pub accepts : (hr pr : ℕ) → 25 + n ≤ hr → length p ≤ pr → Accepted (taking (token n p) hr pr) (header n) p (recordOf (header n) p its-choice)
   accepts hr pr k l =
       let e = length-header n in
@@ -107,21 +108,21 @@ module _ (n : ℕ) (p : List ℕ) (bytes : Bytes p) (header-short : 25 + n ≤ 1
       (accepts (25 + n) (length p) (omega arith) (omega arith)) room (omega (arith, length-token secret (header n) p))
 
 -- WHAT IS BEYOND A LIMIT is refused under that limit's number; in signing, ..
-module _ (n : ℕ) (p : List ℕ) (room : ℕ) (header-short : 25 + n ≤ 1024) where
+module _ (n : ℕ) (p : List ℕ) (room : ℕ) (header-short : 25 + n ≤ longest) where
   signing-passes : NoneOf (earlier (signing (making n p room)) 1)
   signing-passes =
       none-append (openingRules (header n) table) (joseRules (header n) (termsOf table))
       ((λ x. x table-good) also (λ x. omega (arith, length-header n)) also tt) (header-rules (chooses n))
 
-  pub long-unsigned : 16384 < finishedLength (header n) p → signAnswer (making n p room) ≡ 1
+  pub long-unsigned : tokenMost < finishedLength (header n) p → signAnswer (making n p room) ≡ 1
   long-unsigned k = sign-length-refused (making n p room) signing-passes k
 
-  pub no-room-unsigned : finishedLength (header n) p ≤ 16384 → room < finishedLength (header n) p → signAnswer (making n p room) ≡ 6
+  pub no-room-unsigned : finishedLength (header n) p ≤ tokenMost → room < finishedLength (header n) p → signAnswer (making n p room) ≡ 6
   no-room-unsigned k l =
       sign-room-refused (making n p room) (earlier-next (signing (making n p room)) 1 6 refl signing-passes (λ x. omega arith)) l
 
 -- .. and in verifying.
-module _ (n : ℕ) (p : List ℕ) (bytes : Bytes p) (short : finishedLength (header n) p ≤ 16384) (hr pr : ℕ) where
+module _ (n : ℕ) (p : List ℕ) (bytes : Bytes p) (short : finishedLength (header n) p ≤ tokenMost) (hr pr : ℕ) where
   its-parts : Parts (token n p) (header n) p (macOf secret (header n) p)
   its-parts = parts refl (header-bytes (chooses n)) bytes (mac-bytes secret (header n) p)
 
@@ -131,10 +132,10 @@ module _ (n : ℕ) (p : List ℕ) (bytes : Bytes p) (short : finishedLength (hea
   verifying-passes : NoneOf (earlier (verifying (taking (token n p) hr pr)) 5)
   verifying-passes = made-passes (taking (token n p) hr pr) table-good its-parts (header-bytes (chooses n)) bytes (mac-bytes secret (header n) p) (omega (arith, length-token secret (header n) p))
 
-  pub long-header-refused : 1024 < 25 + n → verifyAnswer (taking (token n p) hr pr) ≡ 5
+  pub long-header-refused : longest < 25 + n → verifyAnswer (taking (token n p) hr pr) ≡ 5
   long-header-refused k = header-refused (taking (token n p) hr pr) verifying-passes (omega (arith, its-header))
 
-  module _ (header-short : 25 + n ≤ 1024) where
+  module _ (header-short : 25 + n ≤ longest) where
     verifying-passes-5 : NoneOf (earlier (verifying (taking (token n p) hr pr)) 6)
     verifying-passes-5 = before-6 (taking (token n p) hr pr) verifying-passes (omega (arith, its-header))
 
@@ -157,7 +158,7 @@ module _ (h T : List ℕ) (short : length h ≤ 40) (good : Wellformed T) (compu
       let q = verifyOf (tokenOf s h p) T hr pr in
       let mb = mac-bytes s h p in
       let x = parts {t = q .token} refl its-bytes pb mb in
-      let long : length (q .token) ≤ 16384 = omega (arith, length-token s h p, length-encode h ∙ encoded-length (length h), length-encode p ∙ encoded-length (length p)) in
+      let long : length (q .token) ≤ tokenMost = omega (arith, length-token s h p, length-encode h ∙ encoded-length (length h), length-encode p ∙ encoded-length (length p)) in
       verify-first q 12 refl .1 (
         rw (x .header) (stands .0),
         none-append (earlier (verifying q) 7) (earlier (joseRules (headerOf (q .token)) (termsOf T)) 12)
@@ -199,15 +200,15 @@ pub record Inhabited : Type 0 where
   pub header-room-24 : verifyAnswer (taking (token 0 []) 24 0) ≡ 6
   pub payload-room-0 : (x : ℕ) → x < 256 → verifyAnswer (taking (token 0 (x ∷ [])) 25 0) ≡ 6
   -- with two spaces and a payload of 12,227 bytes the token has 16,384, with one more 16,385
-  pub signed-16384 : (p : List ℕ) → Bytes p → length p ≡ 12227 → signed (making 2 p 16384) ≡ signedAs (token 2 p) 16384
-  pub accepted-16384 : (p : List ℕ) → Bytes p → length p ≡ 12227 → verifyAnswer (taking (token 2 p) 27 12227) ≡ 0
-  pub unsigned-16385 : (p : List ℕ) → length p ≡ 12228 → (room : ℕ) → signAnswer (making 2 p room) ≡ 1
-  pub refused-16385 : (p : List ℕ) → length p ≡ 12228 → (hr pr : ℕ) → verifyAnswer (taking (token 2 p) hr pr) ≡ 1
+  pub signed-longest : (p : List ℕ) → Bytes p → length p ≡ 12227 → signed (making 2 p 16384) ≡ signedAs (token 2 p) 16384
+  pub accepted-longest : (p : List ℕ) → Bytes p → length p ≡ 12227 → verifyAnswer (taking (token 2 p) 27 12227) ≡ 0
+  pub unsigned-longer : (p : List ℕ) → length p ≡ 12228 → (room : ℕ) → signAnswer (making 2 p room) ≡ 1
+  pub refused-longer : (p : List ℕ) → length p ≡ 12228 → (hr pr : ℕ) → verifyAnswer (taking (token 2 p) hr pr) ≡ 1
   -- with 999 spaces the header has 1,024 bytes (and the token 1,411), with one more 1,025
-  pub signed-header-1024 : signed (making 999 [] 1411) ≡ signedAs (token 999 []) 1411
-  pub accepted-header-1024 : verifyAnswer (taking (token 999 []) 1024 0) ≡ 0
-  pub unsigned-header-1025 : (room : ℕ) → signAnswer (making 1000 [] room) ≡ 5
-  pub refused-header-1025 : (hr pr : ℕ) → verifyAnswer (taking (token 1000 []) hr pr) ≡ 5
+  pub signed-longest-header : signed (making 999 [] 1411) ≡ signedAs (token 999 []) 1411
+  pub accepted-longest-header : verifyAnswer (taking (token 999 []) 1024 0) ≡ 0
+  pub unsigned-longer-header : (room : ℕ) → signAnswer (making 1000 [] room) ≡ 5
+  pub refused-longer-header : (hr pr : ℕ) → verifyAnswer (taking (token 1000 []) hr pr) ≡ 5
   -- the empty token, two periods alone, and a token of which no byte of the signature was sent
   pub empty : verifyAnswer (taking [] 25 0) ≡ 3
   pub periods-alone : verifyAnswer (taking (period ∷ period ∷ []) 25 0) ≡ 7
@@ -243,14 +244,14 @@ inhabited =
       its-record = ap (λ (v : VerifyOutcome). v .gives .details) v79;
       header-room-24 = no-header-room 0 [] none (omega (arith, f0 [])) 24 0 (omega arith) (omega arith);
       payload-room-0 = λ x k. no-payload-room 0 (x ∷ []) (more k none) (omega (arith, f0 (x ∷ []))) 25 0 (omega arith) (omega arith);
-      signed-16384 = λ p b e. signs 2 p b (omega arith) (omega (arith, f2 p)) 16384 (omega (arith, f2 p));
-      accepted-16384 = λ p b e. ap answer (verifies 2 p b (omega arith) (omega (arith, f2 p)) 27 12227 (omega arith) (omega arith));
-      unsigned-16385 = λ p e room. long-unsigned 2 p room (omega arith) (omega (arith, f2 p));
-      refused-16385 = λ p e hr pr. token-refused (taking (token 2 p) hr pr) (omega (arith, f2 p, length-token secret (header 2) p));
-      signed-header-1024 = signs 999 [] none (omega arith) (omega (arith, finished 999 [])) 1411 (omega (arith, finished 999 []));
-      accepted-header-1024 = ap answer (verifies 999 [] none (omega arith) (omega (arith, finished 999 [])) 1024 0 (omega arith) (omega arith));
-      unsigned-header-1025 = λ room. sign-header-refused (making 1000 [] room) table-good (omega (arith, length-header 1000));
-      refused-header-1025 = λ hr pr. long-header-refused 1000 [] none (omega (arith, finished 1000 [])) hr pr (omega arith);
+      signed-longest = λ p b e. signs 2 p b (omega arith) (omega (arith, f2 p)) 16384 (omega (arith, f2 p));
+      accepted-longest = λ p b e. ap answer (verifies 2 p b (omega arith) (omega (arith, f2 p)) 27 12227 (omega arith) (omega arith));
+      unsigned-longer = λ p e room. long-unsigned 2 p room (omega arith) (omega (arith, f2 p));
+      refused-longer = λ p e hr pr. token-refused (taking (token 2 p) hr pr) (omega (arith, f2 p, length-token secret (header 2) p));
+      signed-longest-header = signs 999 [] none (omega arith) (omega (arith, finished 999 [])) 1411 (omega (arith, finished 999 []));
+      accepted-longest-header = ap answer (verifies 999 [] none (omega arith) (omega (arith, finished 999 [])) 1024 0 (omega arith) (omega arith));
+      unsigned-longer-header = λ room. sign-header-refused (making 1000 [] room) table-good (omega (arith, length-header 1000));
+      refused-longer-header = λ hr pr. long-header-refused 1000 [] none (omega (arith, finished 1000 [])) hr pr (omega arith);
       empty = empty-token table table-good 25 0;
       periods-alone = two-periods table table-good 25 0;
       no-signature = without-signature;

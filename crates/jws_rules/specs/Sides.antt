@@ -14,7 +14,7 @@ use Rattle.base64url_rules.specs.Base64url.{encode, decode, alphabetic, unusedB
 use Rattle.base64url_rules.specs.LengthLaws.{length-encode}
 use Rattle.hmac.specs.Hmac.{HMACSHA256}
 use Rattle.hmac.specs.HmacLaws.{length-HMACSHA256}
-use Rattle.json_rules.specs.Rules.{deepest}
+use Rattle.json_rules.specs.Rules.{longest, deepest}
 use Rattle.keytable_rules.specs.Table.{Wellformed}
 use Rattle.jose_rules.specs.Rules.{termsOf}
 use Rattle.jose_rules.specs.Header.{joseRules}
@@ -22,7 +22,7 @@ use Rattle.jose_rules.specs.HeaderLaws.{header-chooses}
 use Rattle.jose_rules.specs.Promises.{distinct}
 use Rattle.jws_rules.specs.Calls.{VerifyCall, verifyOf, SignCall}
 use Rattle.jws_rules.specs.Segments.{periods, front, back, period}
-use Rattle.jws_rules.specs.Token.{finishedLength, headerOf, payloadOf, signatureOf, sentInput, secretOf}
+use Rattle.jws_rules.specs.Token.{tokenMost, finishedLength, headerOf, payloadOf, signatureOf, sentInput, secretOf}
 use Rattle.jws_rules.specs.Rules.{verifying, signing}
 use Rattle.jws_rules.specs.Tests.{tokenChoice, verifyAnswer, signAnswer}
 use Rattle.jws_rules.specs.RuleLaws.{before-5, before-6, before-7}
@@ -31,17 +31,17 @@ use Rattle.jws_rules.specs.Promises.{verify-first, sign-first}
 -- VERIFYING
 module _ (q : VerifyCall) where
   -- "tokens of 16,384 and 16,385 bytes"
-  pub token-passes : length (q .token) ≤ 16384 → verifyAnswer q ≡ 1 → ⊥
+  pub token-passes : length (q .token) ≤ tokenMost → verifyAnswer q ≡ 1 → ⊥
   token-passes k e = let x = verify-first q 1 refl .0 e .0 in omega arith
 
-  pub token-refused : 16384 < length (q .token) → verifyAnswer q ≡ 1
+  pub token-refused : tokenMost < length (q .token) → verifyAnswer q ≡ 1
   token-refused k = verify-first q 1 refl .1 (k, tt)
 
   -- "headers of 1,024 bytes, which are 1,366 characters, and of 1,025"
-  pub header-passes : length (headerOf (q .token)) ≤ 1024 → verifyAnswer q ≡ 5 → ⊥
+  pub header-passes : length (headerOf (q .token)) ≤ longest → verifyAnswer q ≡ 5 → ⊥
   header-passes k e = let x = verify-first q 5 refl .0 e .0 in omega arith
 
-  pub header-refused : NoneOf (earlier (verifying q) 5) → 1024 < length (headerOf (q .token)) → verifyAnswer q ≡ 5
+  pub header-refused : NoneOf (earlier (verifying q) 5) → longest < length (headerOf (q .token)) → verifyAnswer q ≡ 5
   header-refused n k = verify-first q 5 refl .1 (k, n)
 
   -- "a buffer can't hold what belongs in it": where both can, `verify-room` of Promises.
@@ -62,22 +62,22 @@ module _ (q : VerifyCall) where
   pub signature-refused : NoneOf (earlier (verifying q) 15) → (length (signatureOf (q .token)) ≡ 32 → ⊥) → verifyAnswer q ≡ 15
   signature-refused n k = differing-refused n (λ e. k (ap length e ∙ length-HMACSHA256 _ _))
 
-pub header-characters : (h : List ℕ) → length h ≡ 1024 → length (encode h) ≡ 1366
+pub header-characters : (h : List ℕ) → length h ≡ longest → length (encode h) ≡ 1366
 header-characters h e = rw (length-encode h, e)
 
 -- SIGNING
 module _ (q : SignCall) where
-  pub sign-header-passes : length (q .header) ≤ 1024 → signAnswer q ≡ 5 → ⊥
+  pub sign-header-passes : length (q .header) ≤ longest → signAnswer q ≡ 5 → ⊥
   sign-header-passes k e = let x = sign-first q 5 refl .0 e .0 in omega arith
 
-  pub sign-header-refused : Wellformed (q .table) → 1024 < length (q .header) → signAnswer q ≡ 5
+  pub sign-header-refused : Wellformed (q .table) → longest < length (q .header) → signAnswer q ≡ 5
   sign-header-refused table k = sign-first q 5 refl .1 (k, (λ n. n table) also tt)
 
   -- "1 (of the token that would come out), 6"; where the token fits its buffer: `sign-room` of Promises
-  pub sign-length-passes : finishedLength (q .header) (q .payload) ≤ 16384 → signAnswer q ≡ 1 → ⊥
+  pub sign-length-passes : finishedLength (q .header) (q .payload) ≤ tokenMost → signAnswer q ≡ 1 → ⊥
   sign-length-passes k e = let x = sign-first q 1 refl .0 e .0 in omega arith
 
-  pub sign-length-refused : NoneOf (earlier (signing q) 1) → 16384 < finishedLength (q .header) (q .payload) → signAnswer q ≡ 1
+  pub sign-length-refused : NoneOf (earlier (signing q) 1) → tokenMost < finishedLength (q .header) (q .payload) → signAnswer q ≡ 1
   sign-length-refused n k = sign-first q 1 refl .1 (k, n)
 
   pub sign-room-refused : NoneOf (earlier (signing q) 6) → q .room < finishedLength (q .header) (q .payload) → signAnswer q ≡ 6

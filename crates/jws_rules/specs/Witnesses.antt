@@ -27,7 +27,7 @@ use Rattle.jose_rules.specs.Promises.{distinct}
 use Rattle.jws_rules.specs.Calls.{verifyOf}
 use Rattle.jws_rules.specs.Segments.{_dot_}
 use Rattle.jws_rules.specs.SegmentLaws.{length-dot}
-use Rattle.jws_rules.specs.Token.{signingInput, macOf, tokenOf, finishedLength, headerOf, secretOf}
+use Rattle.jws_rules.specs.Token.{tokenMost, signingInput, macOf, tokenOf, finishedLength, headerOf, secretOf}
 use Rattle.jws_rules.specs.TokenLaws.{length-token, mac-bytes, parts}
 use Rattle.jws_rules.specs.Outcomes.{VerifyOutcome, recordOf, accepted}
 use Rattle.jws_rules.specs.Rules.{verifying, Accepted}
@@ -88,7 +88,7 @@ module _ (p : List ℕ) (bytes : Bytes p) (short : length p ≤ 12000) (hr pr : 
   abbrev secret : List ℕ
   secret = secretOf table its-choice
 
-  finished : finishedLength header p ≤ 16384
+  finished : finishedLength header p ≤ tokenMost
   unfolding ascii
   finished = omega (arith, length-encode header, length-encode p ∙ encoded-length (length p))
 
@@ -117,7 +117,7 @@ module _ (p : List ℕ) (bytes : Bytes p) (short : length p ≤ 12000) (hr pr : 
   other-signature-refused s sb n differs =
       let q = verifyOf (encode header dot encode p dot encode s) table hr pr in
       let x = parts {t = q .token} refl (header-bytes chooses) bytes sb in
-      let long : length (q .token) ≤ 16384 = omega (arith, length-dot (encode header) (encode p dot encode s), length-dot (encode p) (encode s), length-encode s ∙ ap encodedLength n, finished) in
+      let long : length (q .token) ≤ tokenMost = omega (arith, length-dot (encode header) (encode p dot encode s), length-dot (encode p) (encode s), length-encode s ∙ ap encodedLength n, finished) in
       let choice : tokenChoice q ≡ its-choice = ap (λ (y : List ℕ). headerChoice y (keys table)) (x .header) ∙ read-as .1 in
       differing-refused q
       (none-append (earlier (verifying q) 7) (joseRules (headerOf (q .token)) (termsOf table))

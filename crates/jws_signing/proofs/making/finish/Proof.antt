@@ -1,11 +1,12 @@
 -- `finish` meets its contract: 1, then 6, then the token.
 use mathlib.Core.Path.{_≡_, refl, sym, _∙_}
-use Prim.Native.Nat.{_+_, _<_}
+use Prim.Native.Nat.{_+_, _*_, _≤_}
 use native.Mathlib.Omega.{arith}
 use lib.ListN.{length}
 use borrow.Author.Needs.{needs}
 use Rattle.base64url_rules.specs.LengthLaws.{encoded-length}
-use Rattle.jws_rules.specs.Token.{tokenOf, finishedLength}
+use Rattle.json_rules.specs.Rules.{longest}
+use Rattle.jws_rules.specs.Token.{tokenMost, tokenOf, finishedLength}
 use Rattle.jws_rules.specs.TokenLaws.{length-token}
 use Rattle.jws_signing.proofs.SignLaws.{finished-size, payload-long, too-long, too-short, fitting}
 use Rattle.jws_signing.proofs.WrittenLaws.{refuse, hand}
@@ -22,8 +23,8 @@ size : (l : tie.After-encoded-len2) → let a = l .before .before .before .befor
     l .before .encoded-len .result + l .encoded-len2 .result + 45 ≡ finishedLength (a .header .now) (a .payload .now)
 size l = finished-size _ _ (l .before .encoded-len .ensures) (l .encoded-len2 .ensures)
 
--- .. fits a machine word
-sum-fits : (l : tie.After-encoded-len2) → l .before .encoded-len .result + l .encoded-len2 .result < 30000
+-- .. fits a machine word: no text has more than two characters a byte
+sum-fits : (l : tie.After-encoded-len2) → l .before .encoded-len .result + l .encoded-len2 .result ≤ 2 * (longest + tokenMost)
 sum-fits l =
     let a = l .before .before .before .before .before .before .before .args in
     omega (arith, encoded-length (length (a .header .now)), encoded-length (length (a .payload .now)))
