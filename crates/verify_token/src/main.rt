@@ -2,18 +2,20 @@
 // or `refused ` and the answer's number.
 ghost use Rattle.io.specs.Counts.{Counts};
 use answers::DONE;
+use json_rules::LONGEST;
 use jws::Verified;
+use jws_rules::TOKEN_MOST;
 use libc::STDOUT_FILENO;
 
 // A byte more than the longest table and the longest token, so that a longer file is seen to be longer.
 const TABLE_ROOM: usize = 8193;
 
-const TOKEN_ROOM: usize = 16385;
+const TOKEN_ROOM: usize = TOKEN_MOST + 1;
 
 // What the longest header and the payload of the longest token take.
-const HEADER_ROOM: usize = 1024;
+const HEADER_ROOM: usize = LONGEST;
 
-const PAYLOAD_ROOM: usize = 12288;
+const PAYLOAD_ROOM: usize = TOKEN_MOST / 4 * 3;
 
 fn say(s: &[u8]) {
     io::write_all(STDOUT_FILENO, s);
