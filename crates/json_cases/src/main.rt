@@ -130,24 +130,19 @@ fn part_row(what: &[u8], h: &[u8], n: usize) {
     }
 }
 
-fn long_row(what: &[u8], h: &[u8; 1100], n: usize) {
+fn filled_row(what: &[u8], h: &[u8; 4100], n: usize) {
     part_row(what, &h[..], n);
 }
 
 // A row for that header.
 fn long(what: &[u8], n: usize) {
-    let mut h = [0x20u8; 1100];
+    let mut h = [0x20u8; 4100];
     let mut i = 0;
-    while i < 1100 {
+    while i < 4100 {
         h[i] = long_byte(i, n);
         i += 1;
     }
-    long_row(what, &h, n);
-}
-
-// The same of a whole array of 1,024 bytes.
-fn filled_row(what: &[u8], h: &[u8; 1024]) {
-    line(what, &h[..], 0);
+    filled_row(what, &h, n);
 }
 
 // The byte at place i of the header {"aa":0,"ab":0,..} of n members: names of two letters, all different, or the last as the first if `twice`.
@@ -186,31 +181,33 @@ fn many_byte(i: usize, n: usize, twice: bool) -> u8 {
     }
 }
 
-// A row for that header, with white space up to 1,024 bytes.
+// A row for that header, with white space up to 4,096 bytes.
 fn many(what: &[u8], n: usize, twice: bool) {
-    let mut h = [0x20u8; 1024];
+    let mut h = [0x20u8; 4100];
     let mut i = 0;
-    while i < 1024 {
+    while i < 4100 {
         h[i] = many_byte(i, n, twice);
         i += 1;
     }
-    filled_row(what, &h);
+    filled_row(what, &h, 4096);
 }
 
 // Arrays and objects within the depth, and one deeper.
 fn depths() {
-    row(b"seven arrays nested: {\"x\":[[[[[[[]]]]]]]}");
-    row(b"eight arrays nested: {\"x\":[[[[[[[[]]]]]]]]}");
-    row(b"seven objects nested: {\"x\":{\"x\":{\"x\":{\"x\":{\"x\":{\"x\":{\"x\":{}}}}}}}}");
+    row(b"fifteen arrays nested: {\"x\":[[[[[[[[[[[[[[[]]]]]]]]]]]]]]]}");
+    row(b"sixteen arrays nested: {\"x\":[[[[[[[[[[[[[[[[]]]]]]]]]]]]]]]]}");
     row(
-        b"eight objects nested: {\"x\":{\"x\":{\"x\":{\"x\":{\"x\":{\"x\":{\"x\":{\"x\":{}}}}}}}}}",
+        b"fifteen objects nested: {\"x\":{\"x\":{\"x\":{\"x\":{\"x\":{\"x\":{\"x\":{\"x\":{\"x\":{\"x\":{\"x\":{\"x\":{\"x\":{\"x\":{\"x\":{}}}}}}}}}}}}}}}}",
+    );
+    row(
+        b"sixteen objects nested: {\"x\":{\"x\":{\"x\":{\"x\":{\"x\":{\"x\":{\"x\":{\"x\":{\"x\":{\"x\":{\"x\":{\"x\":{\"x\":{\"x\":{\"x\":{\"x\":{}}}}}}}}}}}}}}}}}",
     );
 }
 
 // The greatest length, one byte more, and no byte.
 fn lengths() {
-    long(b"1,024 bytes", 1024);
-    long(b"1,025 bytes", 1025);
+    long(b"4,096 bytes", 4096);
+    long(b"4,097 bytes", 4097);
     row(b"no bytes: ");
 }
 

@@ -40,9 +40,9 @@ pub rows :
     × (answers "{\"alg\":\"HS256\",\"x\":[ ]}" 0 ≡ Text (place 2 5) (place 8 13)) × (answers "{\"alg\":\"HS256\",\"x\":[ ]}" 1 ≡ Array (place 16 17) (place 19 22))
     × ((k : ℕ) → answers "{\"alg\":\"HS256\",\"x\":[ ]}" (suc (suc k)) ≡ Refused 16)
     × ((t u : Derivation) → bytes t ≡ ascii "{\"alg\":\"HS256\",\"x\":[ ]}" → bytes u ≡ ascii "{\"alg\":\"HS256\",\"x\":[ ]}" → readingOf t ≡ readingOf u)
-    -- seven arrays nested as a member's value: read; eight: 7
-    × (answers "{\"x\":[[[[[[[]]]]]]]}" 0 ≡ Array (place 2 3) (place 5 19))
-    × ((k : ℕ) → answers "{\"x\":[[[[[[[[]]]]]]]]}" k ≡ Refused 7)
+    -- fifteen arrays nested as a member's value: read; sixteen: 7
+    × (answers "{\"x\":[[[[[[[[[[[[[[[]]]]]]]]]]]]]]]}" 0 ≡ Array (place 2 3) (place 5 35))
+    × ((k : ℕ) → answers "{\"x\":[[[[[[[[[[[[[[[[]]]]]]]]]]]]]]]]}" k ≡ Refused 7)
 unfolding answers
 rows = (refl, λ k. refl, λ k. refl, λ k. refl, λ k. refl, refl, refl, λ k. refl, λ t u p q. one-reading t u (p ∙ sym q), refl, λ k. refl)
 
@@ -63,9 +63,9 @@ module _ (h : List ℕ) where
   pub length-refused : longest < length h → checked h ≡ 5
   length-refused l = header-first h 5 refl .1 (l, tt)
 
-  -- "headers of 1,024 bytes, [..] and of 1,025"
-  pub longest-passes : length h ≡ 1024 → checked h ≡ 5 → ⊥
+  -- "headers of 4,096 bytes, [..] and of 4,097"
+  pub longest-passes : length h ≡ 4096 → checked h ≡ 5 → ⊥
   longest-passes e = length-passes (omega arith)
 
-  pub longer-refused : length h ≡ 1025 → checked h ≡ 5
+  pub longer-refused : length h ≡ 4097 → checked h ≡ 5
   longer-refused e = length-refused (omega arith)

@@ -8,12 +8,12 @@ use Rattle.json_grammar_rules.specs.Twice.{TwiceNamed}
 use Rattle.json_grammar_rules.specs.Value.{Members, mnil, mcons, objectV}
 use Rattle.json_grammar_rules.specs.Grammar.{Derivation, Derived, bytes, readingOf, depthOf}
 
--- Rule 5: "At most 1,024 bytes". Rule 7: "The top object counts as depth 1, each array or object within another adds 1, and 8 is the most."
+-- Rule 5: "At most 4,096 bytes". Rule 7: "The top object counts as depth 1, each array or object within another adds 1, and 16 is the most."
 abbrev pub longest : ℕ
-longest = 1024
+longest = 4096
 
 abbrev pub deepest : ℕ
-deepest = 8
+deepest = 16
 
 -- THE CONDITIONS
 
@@ -36,13 +36,13 @@ NoMember h k = (t : Derivation) × (bytes t ≡ h) × (count (readingOf t) ≤ k
 -- the grammar's rules
 abbrev pub grammarRules : ℕ → List ℕ → List Rule
 grammarRules d h =
-    -- "the header isn't JSON by the grammar, or goes deeper than 8"
+    -- "the header isn't JSON by the grammar, or goes deeper than 16"
     7 on (Derived d h → ⊥)
     -- "an object in the header has a name twice"
     ∷ 8 on NameTwice h
     ∷ []
 
--- 5, by the header's length: "the header has more than 1,024 bytes"
+-- 5, by the header's length: "the header has more than 4,096 bytes"
 abbrev pub lengthRule : ℕ → Rule
 lengthRule n = 5 on (longest < n)
 

@@ -2,9 +2,9 @@
 // The crates `json_check` and `json` compute them.
 
 // The greatest length of a header, and the greatest depth, in which the top object is 1.
-pub const LONGEST: usize = 1024;
+pub const LONGEST: usize = 4096;
 
-pub const DEEPEST: usize = 8;
+pub const DEEPEST: usize = 16;
 
 // A part of a text: start is the place of its first byte, end the place after its last.
 pub struct Place {

@@ -204,11 +204,11 @@ pub record Inhabited : Type 0 where
   pub accepted-longest : (p : List ℕ) → Bytes p → length p ≡ 12227 → verifyAnswer (taking (token 2 p) 27 12227) ≡ 0
   pub unsigned-longer : (p : List ℕ) → length p ≡ 12228 → (room : ℕ) → signAnswer (making 2 p room) ≡ 1
   pub refused-longer : (p : List ℕ) → length p ≡ 12228 → (hr pr : ℕ) → verifyAnswer (taking (token 2 p) hr pr) ≡ 1
-  -- with 999 spaces the header has 1,024 bytes (and the token 1,411), with one more 1,025
-  pub signed-longest-header : signed (making 999 [] 1411) ≡ signedAs (token 999 []) 1411
-  pub accepted-longest-header : verifyAnswer (taking (token 999 []) 1024 0) ≡ 0
-  pub unsigned-longer-header : (room : ℕ) → signAnswer (making 1000 [] room) ≡ 5
-  pub refused-longer-header : (hr pr : ℕ) → verifyAnswer (taking (token 1000 []) hr pr) ≡ 5
+  -- with 4,071 spaces the header has 4,096 bytes (and the token 5,507), with one more 4,097
+  pub signed-longest-header : signed (making 4071 [] 5507) ≡ signedAs (token 4071 []) 5507
+  pub accepted-longest-header : verifyAnswer (taking (token 4071 []) 4096 0) ≡ 0
+  pub unsigned-longer-header : (room : ℕ) → signAnswer (making 4072 [] room) ≡ 5
+  pub refused-longer-header : (hr pr : ℕ) → verifyAnswer (taking (token 4072 []) hr pr) ≡ 5
   -- the empty token, two periods alone, and a token of which no byte of the signature was sent
   pub empty : verifyAnswer (taking [] 25 0) ≡ 3
   pub periods-alone : verifyAnswer (taking (period ∷ period ∷ []) 25 0) ≡ 7
@@ -248,10 +248,10 @@ inhabited =
       accepted-longest = λ p b e. ap answer (verifies 2 p b (omega arith) (omega (arith, f2 p)) 27 12227 (omega arith) (omega arith));
       unsigned-longer = λ p e room. long-unsigned 2 p room (omega arith) (omega (arith, f2 p));
       refused-longer = λ p e hr pr. token-refused (taking (token 2 p) hr pr) (omega (arith, f2 p, length-token secret (header 2) p));
-      signed-longest-header = signs 999 [] none (omega arith) (omega (arith, finished 999 [])) 1411 (omega (arith, finished 999 []));
-      accepted-longest-header = ap answer (verifies 999 [] none (omega arith) (omega (arith, finished 999 [])) 1024 0 (omega arith) (omega arith));
-      unsigned-longer-header = λ room. sign-header-refused (making 1000 [] room) table-good (omega (arith, length-header 1000));
-      refused-longer-header = λ hr pr. long-header-refused 1000 [] none (omega (arith, finished 1000 [])) hr pr (omega arith);
+      signed-longest-header = signs 4071 [] none (omega arith) (omega (arith, finished 4071 [])) 5507 (omega (arith, finished 4071 []));
+      accepted-longest-header = ap answer (verifies 4071 [] none (omega arith) (omega (arith, finished 4071 [])) 4096 0 (omega arith) (omega arith));
+      unsigned-longer-header = λ room. sign-header-refused (making 4072 [] room) table-good (omega (arith, length-header 4072));
+      refused-longer-header = λ hr pr. long-header-refused 4072 [] none (omega (arith, finished 4072 [])) hr pr (omega arith);
       empty = empty-token table table-good 25 0;
       periods-alone = two-periods table table-good 25 0;
       no-signature = without-signature;

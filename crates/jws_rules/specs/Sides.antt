@@ -37,7 +37,7 @@ module _ (q : VerifyCall) where
   pub token-refused : tokenMost < length (q .token) → verifyAnswer q ≡ 1
   token-refused k = verify-first q 1 refl .1 (k, tt)
 
-  -- "headers of 1,024 bytes, which are 1,366 characters, and of 1,025"
+  -- "headers of 4,096 bytes, which are 5,462 characters, and of 4,097"
   pub header-passes : length (headerOf (q .token)) ≤ longest → verifyAnswer q ≡ 5 → ⊥
   header-passes k e = let x = verify-first q 5 refl .0 e .0 in omega arith
 
@@ -62,7 +62,7 @@ module _ (q : VerifyCall) where
   pub signature-refused : NoneOf (earlier (verifying q) 15) → (length (signatureOf (q .token)) ≡ 32 → ⊥) → verifyAnswer q ≡ 15
   signature-refused n k = differing-refused n (λ e. k (ap length e ∙ length-HMACSHA256 _ _))
 
-pub header-characters : (h : List ℕ) → length h ≡ longest → length (encode h) ≡ 1366
+pub header-characters : (h : List ℕ) → length h ≡ longest → length (encode h) ≡ 5462
 header-characters h e = rw (length-encode h, e)
 
 -- SIGNING

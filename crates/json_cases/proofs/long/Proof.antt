@@ -8,7 +8,7 @@ abbrev Inv-loop : tie.InvT-loop
 Inv-loop what n h₀ i₀ h i = Unit {0}
 
 abbrev μ-loop : tie.MeasureT-loop
-μ-loop what n h₀ i₀ h i = 1100 - i
+μ-loop what n h₀ i₀ h i = 4100 - i
 
 pub long-spec : {M : Type 1} → statement M
 long-spec =

@@ -8,7 +8,7 @@ abbrev Inv-loop : tie.InvT-loop
 Inv-loop what n twice h₀ i₀ h i = Unit {0}
 
 abbrev μ-loop : tie.MeasureT-loop
-μ-loop what n twice h₀ i₀ h i = 1024 - i
+μ-loop what n twice h₀ i₀ h i = 4100 - i
 
 pub many-spec : {M : Type 1} → statement M
 many-spec =
