@@ -5,7 +5,7 @@ ghost use mathlib.Core.List.{[], _∷_};
 // Done.
 pub const DONE: u8 = 0;
 
-// The token has more than 16,384 bytes.
+// The token has more than 32,768 bytes.
 pub const TOKEN_TOO_LONG: u8 = 1;
 
 // The table is bad.

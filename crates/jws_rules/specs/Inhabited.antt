@@ -199,11 +199,11 @@ pub record Inhabited : Type 0 where
   pub its-record : verified (taking (token 0 []) 25 0) .gives .details ≡ record { «header_length» = 25; «payload_length» = 0; choice = its-choice }
   pub header-room-24 : verifyAnswer (taking (token 0 []) 24 0) ≡ 6
   pub payload-room-0 : (x : ℕ) → x < 256 → verifyAnswer (taking (token 0 (x ∷ [])) 25 0) ≡ 6
-  -- with two spaces and a payload of 12,227 bytes the token has 16,384, with one more 16,385
-  pub signed-longest : (p : List ℕ) → Bytes p → length p ≡ 12227 → signed (making 2 p 16384) ≡ signedAs (token 2 p) 16384
-  pub accepted-longest : (p : List ℕ) → Bytes p → length p ≡ 12227 → verifyAnswer (taking (token 2 p) 27 12227) ≡ 0
-  pub unsigned-longer : (p : List ℕ) → length p ≡ 12228 → (room : ℕ) → signAnswer (making 2 p room) ≡ 1
-  pub refused-longer : (p : List ℕ) → length p ≡ 12228 → (hr pr : ℕ) → verifyAnswer (taking (token 2 p) hr pr) ≡ 1
+  -- with two spaces and a payload of 24,515 bytes the token has 32,768, with one more 32,769
+  pub signed-longest : (p : List ℕ) → Bytes p → length p ≡ 24515 → signed (making 2 p 32768) ≡ signedAs (token 2 p) 32768
+  pub accepted-longest : (p : List ℕ) → Bytes p → length p ≡ 24515 → verifyAnswer (taking (token 2 p) 27 24515) ≡ 0
+  pub unsigned-longer : (p : List ℕ) → length p ≡ 24516 → (room : ℕ) → signAnswer (making 2 p room) ≡ 1
+  pub refused-longer : (p : List ℕ) → length p ≡ 24516 → (hr pr : ℕ) → verifyAnswer (taking (token 2 p) hr pr) ≡ 1
   -- with 4,071 spaces the header has 4,096 bytes (and the token 5,507), with one more 4,097
   pub signed-longest-header : signed (making 4071 [] 5507) ≡ signedAs (token 4071 []) 5507
   pub accepted-longest-header : verifyAnswer (taking (token 4071 []) 4096 0) ≡ 0
@@ -244,8 +244,8 @@ inhabited =
       its-record = ap (λ (v : VerifyOutcome). v .gives .details) v79;
       header-room-24 = no-header-room 0 [] none (omega (arith, f0 [])) 24 0 (omega arith) (omega arith);
       payload-room-0 = λ x k. no-payload-room 0 (x ∷ []) (more k none) (omega (arith, f0 (x ∷ []))) 25 0 (omega arith) (omega arith);
-      signed-longest = λ p b e. signs 2 p b (omega arith) (omega (arith, f2 p)) 16384 (omega (arith, f2 p));
-      accepted-longest = λ p b e. ap answer (verifies 2 p b (omega arith) (omega (arith, f2 p)) 27 12227 (omega arith) (omega arith));
+      signed-longest = λ p b e. signs 2 p b (omega arith) (omega (arith, f2 p)) 32768 (omega (arith, f2 p));
+      accepted-longest = λ p b e. ap answer (verifies 2 p b (omega arith) (omega (arith, f2 p)) 27 24515 (omega arith) (omega arith));
       unsigned-longer = λ p e room. long-unsigned 2 p room (omega arith) (omega (arith, f2 p));
       refused-longer = λ p e hr pr. token-refused (taking (token 2 p) hr pr) (omega (arith, f2 p, length-token secret (header 2) p));
       signed-longest-header = signs 4071 [] none (omega arith) (omega (arith, finished 4071 [])) 5507 (omega (arith, finished 4071 []));

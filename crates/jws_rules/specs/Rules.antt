@@ -21,7 +21,7 @@ use Rattle.jws_rules.specs.Calls.{VerifyCall, SignCall}
 use Rattle.jws_rules.specs.Segments.{periods, front, back}
 use Rattle.jws_rules.specs.Token.{tokenMost, tokenOf, finishedLength, headerOf, payloadOf, signatureOf, sentInput, secretOf}
 
--- 1, by the token's length: "the token has more than 16,384 bytes"
+-- 1, by the token's length: "the token has more than 32,768 bytes"
 abbrev pub tokenLengthRule : ℕ → Rule
 tokenLengthRule n = 1 on (tokenMost < n)
 

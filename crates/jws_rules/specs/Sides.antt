@@ -30,7 +30,7 @@ use Rattle.jws_rules.specs.Promises.{verify-first, sign-first}
 
 -- VERIFYING
 module _ (q : VerifyCall) where
-  -- "tokens of 16,384 and 16,385 bytes"
+  -- "tokens of 32,768 and 32,769 bytes"
   pub token-passes : length (q .token) ≤ tokenMost → verifyAnswer q ≡ 1 → ⊥
   token-passes k e = let x = verify-first q 1 refl .0 e .0 in omega arith
 

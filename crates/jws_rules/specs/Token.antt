@@ -9,9 +9,9 @@ use Rattle.keytable_rules.specs.Table.{keys}
 use Rattle.jose_rules.specs.declared.Choice.{Choice}
 use Rattle.jws_rules.specs.Segments.{front, back, _dot_}
 
--- 1: "the token has more than 16,384 bytes"
+-- 1: "the token has more than 32,768 bytes"
 abbrev pub tokenMost : ℕ
-tokenMost = 16384
+tokenMost = 32768
 
 -- RFC 7515 section 2, the JWS Signing Input: BASE64URL(UTF8(JWS Protected Header)) || '.' || BASE64URL(JWS Payload)
 abbrev pub signingInput : List ℕ → List ℕ → List ℕ

@@ -2,7 +2,7 @@
 use jose_rules::Choice;
 
 // The longest token.
-pub const TOKEN_MOST: usize = 16384;
+pub const TOKEN_MOST: usize = 32768;
 
 // What a token that is accepted holds: the lengths of its header and payload, and what its header decides.
 pub struct Record {
