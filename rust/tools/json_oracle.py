@@ -19,8 +19,8 @@ import json
 import re
 import sys
 
-HEADER_MAX = 1024
-DEPTH_MAX = 8
+HEADER_MAX = 4096
+DEPTH_MAX = 16
 KINDS = {"string": 1, "number": 2, "true": 3, "false": 4, "null": 5, "array": 6, "object": 7}
 
 # White space (RFC 8259 section 2) stands between tokens. Digits of \u are capital or small (section 7).

@@ -2,7 +2,7 @@
 
 /// Done.
 pub const DONE: u8 = 0;
-/// The token has more than 16,384 bytes.
+/// The token has more than 32,768 bytes.
 pub const TOKEN_TOO_LONG: u8 = 1;
 /// The table is bad.
 pub const BAD_TABLE: u8 = 2;
@@ -10,11 +10,11 @@ pub const BAD_TABLE: u8 = 2;
 pub const NOT_TWO_PERIODS: u8 = 3;
 /// One of the three segments isn't strict.
 pub const NOT_BASE64URL: u8 = 4;
-/// The header has more than 1,024 bytes.
+/// The header has more than 4,096 bytes.
 pub const HEADER_TOO_LONG: u8 = 5;
 /// A buffer can't hold what belongs in it.
 pub const BUFFER_TOO_SHORT: u8 = 6;
-/// The header isn't JSON by the grammar, or goes deeper than 8.
+/// The header isn't JSON by the grammar, or goes deeper than 16.
 pub const NOT_DERIVED: u8 = 7;
 /// An object in the header has a name twice.
 pub const NAME_TWICE: u8 = 8;

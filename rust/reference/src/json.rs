@@ -499,16 +499,20 @@ mod tests {
     #[test]
     fn depth() {
         let nest = |open: &str, close: &str, n: usize| open.repeat(n) + "0" + &close.repeat(n);
-        assert_eq!(value_answer(nest("[", "]", 7)), 0);
-        assert_eq!(value_answer(nest("[", "]", 8)), 7);
-        assert_eq!(value_answer(nest("{\"y\":", "}", 7)), 0);
-        assert_eq!(value_answer(nest("{\"y\":", "}", 8)), 7);
-        assert_eq!(value_answer(nest("[{\"y\":", "}]", 3)), 0);
-        assert_eq!(value_answer(nest("[{\"y\":", "}]", 4)), 7);
+        let nest_empty = |inner: &str, n: usize| "[".repeat(n) + inner + &"]".repeat(n);
+        // The top object is one level.
+        const INSIDE: usize = DEPTH_MAX - 1;
+        assert_eq!(value_answer(nest("[", "]", INSIDE)), 0);
+        assert_eq!(value_answer(nest("[", "]", INSIDE + 1)), 7);
+        assert_eq!(value_answer(nest("{\"y\":", "}", INSIDE)), 0);
+        assert_eq!(value_answer(nest("{\"y\":", "}", INSIDE + 1)), 7);
+        assert_eq!(value_answer(nest("[{\"y\":", "}]", INSIDE / 2)), 0);
+        assert_eq!(value_answer(nest("[{\"y\":", "}]", INSIDE / 2 + 1)), 7);
         // Empty ones count too.
-        assert_eq!(value_answer("[[[[[[[]]]]]]]"), 0);
-        assert_eq!(value_answer("[[[[[[[[]]]]]]]]"), 7);
-        assert_eq!(value_answer("[[[[[[[{}]]]]]]]"), 7);
+        assert_eq!(value_answer(nest_empty("[]", INSIDE - 1)), 0);
+        assert_eq!(value_answer(nest_empty("{}", INSIDE - 1)), 0);
+        assert_eq!(value_answer(nest_empty("[]", INSIDE)), 7);
+        assert_eq!(value_answer(nest_empty("{}", INSIDE)), 7);
         // Depth is not the number of brackets.
         assert_eq!(value_answer(format!("[{}[]]", "[],".repeat(50))), 0);
     }
@@ -674,14 +678,15 @@ mod tests {
         assert_eq!(answer(br#"{"a":0,"a":1} x"#), 7);
         assert_eq!(answer(br#"{"a":0,"a":"\uDD1E"}"#), 7);
         assert_eq!(answer(b"{\"a\":0,\"a\":\"\xFF\"}"), 7);
-        assert_eq!(answer(br#"{"x":[{"a":0,"a":1},[[[[[[[]]]]]]]]}"#), 7);
+        let deep = "[".repeat(DEPTH_MAX) + &"]".repeat(DEPTH_MAX);
+        assert_eq!(answer(format!(r#"{{"x":[{{"a":0,"a":1}},{deep}]}}"#).as_bytes()), 7);
     }
 
     #[test]
     fn five_stands_before_seven() {
-        assert_eq!(answer(&[b' '; 1_025]), 5);
-        assert_eq!(answer(&[b' '; 1_024]), 7);
-        assert_eq!(answer(&[b"{}".to_vec(), vec![b' '; 1_022]].concat()), 0);
+        assert_eq!(answer(&[b' '; HEADER_MAX + 1]), 5);
+        assert_eq!(answer(&[b' '; HEADER_MAX]), 7);
+        assert_eq!(answer(&[b"{}".to_vec(), vec![b' '; HEADER_MAX - 2]].concat()), 0);
     }
 
     #[test]
@@ -710,7 +715,7 @@ mod tests {
         assert_eq!(member(b"{}", 0).err(), Some(16));
         assert_eq!(member(b"{", 0).err(), Some(7));
         assert_eq!(member(br#"{"a":0,"a":0}"#, 0).err(), Some(8));
-        assert_eq!(member(&[b'{'; 2_000], 0).err(), Some(5));
+        assert_eq!(member(&[b'{'; 2 * HEADER_MAX], 0).err(), Some(5));
     }
 
     #[test]

@@ -1,11 +1,11 @@
 //! Every limit of the specification, each named once.
 
 /// Longest token, in bytes ("Answers", 1).
-pub const TOKEN_MAX: usize = 16_384;
+pub const TOKEN_MAX: usize = 32_768;
 /// Longest decoded header, in bytes ("Answers", 5).
-pub const HEADER_MAX: usize = 1_024;
+pub const HEADER_MAX: usize = 4_096;
 /// Greatest depth of arrays and objects; the top object is depth 1 ("Header").
-pub const DEPTH_MAX: usize = 8;
+pub const DEPTH_MAX: usize = 16;
 
 /// Shortest key table, in bytes: its fixed part ("Key table").
 pub const TABLE_MIN: usize = 8;

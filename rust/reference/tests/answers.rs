@@ -7,6 +7,7 @@ use common::{
 };
 use reference::base64url::encode;
 use reference::json::member;
+use reference::limits::{HEADER_MAX, TOKEN_MAX};
 
 #[test]
 fn every_answer_of_verifying() {
@@ -18,11 +19,11 @@ fn every_answer_of_verifying() {
     }]);
     let answers = [
         verify(&good, &one_key()),
-        verify(&[b'.'; 16_385], &one_key()),
+        verify(&[b'.'; TOKEN_MAX + 1], &one_key()),
         verify(&good, &[]),
         verify(&good[..20], &one_key()),
         verify(b"A..", &one_key()),
-        verify(&token([b' '; 1_025], "", SECRET), &one_key()),
+        verify(&token([b' '; HEADER_MAX + 1], "", SECRET), &one_key()),
         verify_with(&good, &one_key(), HEADER.len() - 1, 3),
         verify(b"..", &one_key()),
         verify(&token("{\"\":0,\"\":0}", "", SECRET), &one_key()),
@@ -42,7 +43,7 @@ fn every_answer_of_verifying() {
 fn every_answer_of_the_member_reader() {
     let answer = |header: &[u8], k| member(header, k).err().unwrap_or(0);
     assert_eq!(answer(b"{\"a\":0}", 0), 0);
-    assert_eq!(answer(&[b' '; 1_025], 0), 5);
+    assert_eq!(answer(&[b' '; HEADER_MAX + 1], 0), 5);
     assert_eq!(answer(b"", 0), 7);
     assert_eq!(answer(b"{\"a\":0,\"a\":0}", 0), 8);
     assert_eq!(answer(b"{\"a\":0}", 1), 16);
@@ -67,20 +68,20 @@ fn the_first_in_order_stands() {
     let kind = r#""alg":1,"crit":[]"#;
     let twice = r#""alg":1,"crit":[],"alg":1"#;
     let broken = r#""alg":1,"crit":[],"alg":1,"#;
-    let long = format!("{broken}{}", " ".repeat(1_024));
+    let long = format!("{broken}{}", " ".repeat(HEADER_MAX));
     let bad_segment = [unsigned(&header(&long)), b"=".to_vec()].concat();
     let periods = [&bad_segment[..], b"."].concat();
-    let too_long = [&periods[..], &[b'.'; 16_384]].concat();
+    let too_long = [&periods[..], &[b'.'; TOKEN_MAX]].concat();
     let cases: [(Vec<u8>, Vec<u8>, usize, u8); 15] = [
-        (unsigned(&header(kid)), weak(1, 1), 1_024, 15),
-        (unsigned(&header(kid)), weak(1, 0), 1_024, 14),
-        (unsigned(&header(kid)), weak(0, 0), 1_024, 13),
-        (unsigned(&header(no_kid)), weak(0, 0), 1_024, 12),
-        (unsigned(&header(alg)), weak(0, 0), 1_024, 11),
-        (unsigned(&header(crit)), weak(0, 0), 1_024, 10),
-        (unsigned(&header(kind)), weak(0, 0), 1_024, 9),
-        (unsigned(&header(twice)), weak(0, 0), 1_024, 8),
-        (unsigned(&header(broken)), weak(0, 0), 1_024, 7),
+        (unsigned(&header(kid)), weak(1, 1), HEADER_MAX, 15),
+        (unsigned(&header(kid)), weak(1, 0), HEADER_MAX, 14),
+        (unsigned(&header(kid)), weak(0, 0), HEADER_MAX, 13),
+        (unsigned(&header(no_kid)), weak(0, 0), HEADER_MAX, 12),
+        (unsigned(&header(alg)), weak(0, 0), HEADER_MAX, 11),
+        (unsigned(&header(crit)), weak(0, 0), HEADER_MAX, 10),
+        (unsigned(&header(kind)), weak(0, 0), HEADER_MAX, 9),
+        (unsigned(&header(twice)), weak(0, 0), HEADER_MAX, 8),
+        (unsigned(&header(broken)), weak(0, 0), HEADER_MAX, 7),
         (unsigned(&header(broken)), weak(0, 0), 1, 6),
         (unsigned(&header(&long)), weak(0, 0), 1, 5),
         (bad_segment, weak(0, 0), 1, 4),

@@ -1,4 +1,4 @@
-//! Specification, "Both sides of a limit", row by row.
+//! Specification, "Both sides of a limit", row by row. Its numbers are written out, so that they are held against those of `limits`.
 
 mod common;
 
@@ -55,30 +55,30 @@ fn nesting() {
             "]".repeat(arrays)
         )
     };
-    assert_eq!(header_answer(header(7)), 0);
-    assert_eq!(header_answer(header(8)), 7);
+    assert_eq!(header_answer(header(15)), 0);
+    assert_eq!(header_answer(header(16)), 7);
 }
 
 #[test]
 fn token_lengths() {
-    // 35 characters of header and 43 of signature leave 16,304 for the payload.
+    // 35 characters of header and 43 of signature leave 32,688 for the payload.
     let header = r#"{"alg":"HS256", "kid":"k"}"#;
-    let longest = token(header, vec![b'p'; 12_228], SECRET);
-    assert_eq!(longest.len(), 16_384);
+    let longest = token(header, vec![b'p'; 24_516], SECRET);
+    assert_eq!(longest.len(), 32_768);
     assert_eq!(verify(&longest, &one_key()).answer, 0);
     assert_eq!(verify(&[&longest[..], b"A"].concat(), &one_key()).answer, 1);
-    assert_eq!(sign(header.as_bytes(), &[b'p'; 12_228], &one_key()), (0, longest));
-    assert_eq!(sign(header.as_bytes(), &[b'p'; 12_229], &one_key()).0, 1);
-    assert_eq!(verify(&[b'A'; 16_384], &one_key()).answer, 3);
-    assert_eq!(verify(&[b'A'; 16_385], &one_key()).answer, 1);
+    assert_eq!(sign(header.as_bytes(), &[b'p'; 24_516], &one_key()), (0, longest));
+    assert_eq!(sign(header.as_bytes(), &[b'p'; 24_517], &one_key()).0, 1);
+    assert_eq!(verify(&[b'A'; 32_768], &one_key()).answer, 3);
+    assert_eq!(verify(&[b'A'; 32_769], &one_key()).answer, 1);
 }
 
 #[test]
 fn header_lengths() {
     let header = |length: usize| format!("{HEADER:length$}");
-    assert_eq!(encode(header(1_024).as_bytes()).len(), 1_366);
-    assert_eq!(header_answer(header(1_024)), 0);
-    assert_eq!(header_answer(header(1_025)), 5);
+    assert_eq!(encode(header(4_096).as_bytes()).len(), 5_462);
+    assert_eq!(header_answer(header(4_096)), 0);
+    assert_eq!(header_answer(header(4_097)), 5);
 }
 
 #[test]

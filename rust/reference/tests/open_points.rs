@@ -6,6 +6,7 @@ use common::{
     entry, header_answer, one_key, sign, sign_with, table, token, verify, verify_with, Entry, HEADER, SECRET,
 };
 use reference::base64url::encode;
+use reference::limits::{DEPTH_MAX, TOKEN_MAX};
 use reference::token::{payload, Record};
 use reference::{json, table as keys};
 
@@ -155,8 +156,12 @@ fn p05_areas_overlap_each_other_but_not_the_entries() {
 
 #[test]
 fn p06_depth_counts_empty_ones() {
-    assert_eq!(header_answer(r#"{"alg":"HS256","kid":"k","x":[[[[[[{}]]]]]]}"#), 0);
-    assert_eq!(header_answer(r#"{"alg":"HS256","kid":"k","x":[[[[[[[{}]]]]]]]}"#), 7);
+    let header = |arrays: usize| {
+        let (open, close) = ("[".repeat(arrays), "]".repeat(arrays));
+        format!(r#"{{"alg":"HS256","kid":"k","x":{open}{{}}{close}}}"#)
+    };
+    assert_eq!(header_answer(header(DEPTH_MAX - 2)), 0);
+    assert_eq!(header_answer(header(DEPTH_MAX - 1)), 7);
 }
 
 #[test]
@@ -288,7 +293,7 @@ fn p13_index_from_zero_and_format_one() {
 #[test]
 fn p14_the_order_of_signing() {
     let good = HEADER.as_bytes();
-    let long = vec![0; 20_000];
+    let long = vec![0; TOKEN_MAX];
     // 2 before all, 5 and 7 to 14 before 1, 1 before 6.
     assert_eq!(sign_with(&long, &long, b"", 0).0, 2);
     assert_eq!(sign_with(&long, &long, &one_key(), 0).0, 5);

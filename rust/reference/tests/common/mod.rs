@@ -6,6 +6,7 @@ pub mod rfc7520;
 
 use reference::base64url;
 use reference::hmac::hmac_sha256;
+use reference::limits::{HEADER_MAX, TOKEN_MAX};
 use reference::token::{self, Record};
 
 /// The secret of most tests.
@@ -105,7 +106,7 @@ pub fn verify_with(token: &[u8], table: &[u8], header_len: usize, payload_len: u
 
 /// Verifies with long buffers.
 pub fn verify(token: &[u8], table: &[u8]) -> Verified {
-    verify_with(token, table, 1_100, 13_000)
+    verify_with(token, table, HEADER_MAX + 100, TOKEN_MAX)
 }
 
 /// The answer to a token of this header, signed rightly with [`SECRET`], under [`one_key`].
@@ -128,5 +129,5 @@ pub fn sign_with(header: &[u8], payload: &[u8], table: &[u8], token_len: usize) 
 
 /// Signs with a long buffer.
 pub fn sign(header: &[u8], payload: &[u8], table: &[u8]) -> (u8, Vec<u8>) {
-    sign_with(header, payload, table, 17_000)
+    sign_with(header, payload, table, TOKEN_MAX + 100)
 }
