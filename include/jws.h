@@ -43,13 +43,13 @@ uint32_t jws_boundary(void);
 /* Answers. */
 enum {
     JWS_DONE = 0,                /* done */
-    JWS_TOKEN_TOO_LONG = 1,      /* the token has more than 16,384 bytes */
+    JWS_TOKEN_TOO_LONG = 1,      /* the token has more than 32,768 bytes */
     JWS_BAD_TABLE = 2,           /* the table is bad */
     JWS_NOT_TWO_PERIODS = 3,     /* there are fewer than two periods, or more */
     JWS_NOT_BASE64URL = 4,       /* one of the three segments isn't strict */
-    JWS_HEADER_TOO_LONG = 5,     /* the header has more than 1,024 bytes */
+    JWS_HEADER_TOO_LONG = 5,     /* the header has more than 4,096 bytes */
     JWS_BUFFER_TOO_SHORT = 6,    /* a buffer can't hold what belongs in it */
-    JWS_NOT_DERIVED = 7,         /* the header isn't JSON by the grammar, or goes deeper than 8 */
+    JWS_NOT_DERIVED = 7,         /* the header isn't JSON by the grammar, or goes deeper than 16 */
     JWS_NAME_TWICE = 8,          /* an object in the header has a name twice */
     JWS_WRONG_KIND = 9,          /* `alg` is missing, or a member with a meaning isn't what it must be */
     JWS_CRITICAL = 10,           /* `crit` breaks its rules, or `fmt` stands there and isn't listed */
@@ -98,9 +98,9 @@ enum {
 
 /* Limits, in bytes. */
 enum {
-    JWS_TOKEN_MAX = 16384,
-    JWS_HEADER_MAX = 1024,
-    JWS_PAYLOAD_MAX = 12288 /* 3/4 of JWS_TOKEN_MAX */
+    JWS_TOKEN_MAX = 32768,
+    JWS_HEADER_MAX = 4096,
+    JWS_PAYLOAD_MAX = 24576 /* 3/4 of JWS_TOKEN_MAX */
 };
 
 /*

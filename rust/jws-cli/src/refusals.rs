@@ -16,7 +16,7 @@ pub const UNKNOWN: &str =
 pub fn sentence(refusal: Refusal) -> &'static str {
     match refusal {
         Refusal::TokenTooLong => {
-            "A token has at most 16,384 bytes: look at the payload's length, or whether this file is a token at \
+            "A token has at most 32,768 bytes: look at the payload's length, or whether this file is a token at \
              all."
         }
         Refusal::BadTable => {
@@ -33,7 +33,7 @@ pub fn sentence(refusal: Refusal) -> &'static str {
              changed on the way."
         }
         Refusal::HeaderTooLong => {
-            "A header has at most 1,024 bytes as JSON: look for members that belong into the payload."
+            "A header has at most 4,096 bytes as JSON: look for members that belong into the payload."
         }
         Refusal::BufferTooShort => {
             "A buffer is shorter than what it must hold: look at `--room`, which stands for the buffer of a node."
@@ -41,7 +41,7 @@ pub fn sentence(refusal: Refusal) -> &'static str {
         Refusal::NotDerived => {
             "The header isn't one JSON object by the strict grammar: look for a comma too many, a byte order mark, \
              bytes that aren't UTF-8, a \\u without four hexadecimal digits or with half of a surrogate pair, or \
-             arrays and objects more than 8 deep."
+             arrays and objects more than 16 deep."
         }
         Refusal::NameTwice => {
             "An object in the header, or nested in it, has two members of one name: look at the names with their \

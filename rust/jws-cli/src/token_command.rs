@@ -72,7 +72,7 @@ a newline at their end if there is one.
   --header HEADER.json    the header, or - for standard input
   --payload FILE          the payload, or - for standard input
   --out TOKEN.txt         where the token goes, as a whole or not at all; otherwise to standard output. No newline is put after it
-  --room BYTES            answers as for a token buffer of this many bytes (16384 otherwise, which always suffices)
+  --room BYTES            answers as for a token buffer of this many bytes (32768 otherwise, which always suffices)
 
 Exit status: 0 signed, 1 refused (2, 5, 7 to 14, 1 or 6), 2 wrong arguments or a file that can't be read or written.
 
@@ -92,7 +92,7 @@ then is refused with 4.
   TOKEN.txt               the token, or - for standard input
   --payload-out FILE      where the payload of an accepted token goes, as a whole or not at all; with - it goes to standard output
                           and the rest to standard error
-  --room BYTES            answers as for a payload buffer of this many bytes (12288 otherwise, which always suffices)
+  --room BYTES            answers as for a payload buffer of this many bytes (24576 otherwise, which always suffices)
 
 Exit status: 0 accepted, 1 refused (1 to 15), 2 wrong arguments or a file that can't be read or written.
 

@@ -4,6 +4,7 @@ use std::fs;
 
 use jws::Refusal;
 use jws_cli::refusals;
+use reference::limits::DEPTH_MAX;
 
 /// An answer as a place has it.
 #[derive(Clone, Debug, PartialEq, Eq)]
@@ -247,7 +248,7 @@ fn the_wrapper_agrees() {
     assert_eq!(differences(&camel_cases(refusals()), &given), Vec::<String>::new());
 }
 
-/// The limits in the words are the wrapper's, with a comma before the last three digits.
+/// The limits in the words are the wrapper's, with a comma before the last three digits; the depth is the reference's.
 #[test]
 fn the_limits_agree() {
     for (refusal, limit) in [
@@ -258,6 +259,9 @@ fn the_limits_agree() {
         assert!(refusal.to_string().contains(&format!("more than {limit} bytes")));
         assert!(refusals::sentence(refusal).contains(&format!("at most {limit} bytes")));
     }
+    let refusal = Refusal::NotDerived;
+    assert!(refusal.to_string().ends_with(&format!("deeper than {DEPTH_MAX}")));
+    assert!(refusals::sentence(refusal).contains(&format!("more than {DEPTH_MAX} deep")));
 }
 
 /// The commands have a sentence of its own for each answer, and one for all that they don't know.

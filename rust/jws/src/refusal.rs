@@ -7,7 +7,7 @@ use core::fmt;
 #[derive(Clone, Copy, Debug, PartialEq, Eq, Hash)]
 #[non_exhaustive]
 pub enum Refusal {
-    /// The token has more than 16,384 bytes.
+    /// The token has more than 32,768 bytes.
     TokenTooLong,
     /// The table is bad.
     BadTable,
@@ -15,11 +15,11 @@ pub enum Refusal {
     NotTwoPeriods,
     /// One of the three segments isn't strict.
     NotBase64url,
-    /// The header has more than 1,024 bytes.
+    /// The header has more than 4,096 bytes.
     HeaderTooLong,
     /// A buffer can't hold what belongs in it.
     BufferTooShort,
-    /// The header isn't JSON by the grammar, or goes deeper than 8.
+    /// The header isn't JSON by the grammar, or goes deeper than 16.
     NotDerived,
     /// An object in the header has a name twice.
     NameTwice,
@@ -133,13 +133,13 @@ impl From<Refusal> for u8 {
 impl fmt::Display for Refusal {
     fn fmt(&self, f: &mut fmt::Formatter<'_>) -> fmt::Result {
         f.write_str(match self {
-            Refusal::TokenTooLong => "the token has more than 16,384 bytes",
+            Refusal::TokenTooLong => "the token has more than 32,768 bytes",
             Refusal::BadTable => "the table is bad",
             Refusal::NotTwoPeriods => "there are fewer than two periods, or more",
             Refusal::NotBase64url => "one of the three segments isn't strict",
-            Refusal::HeaderTooLong => "the header has more than 1,024 bytes",
+            Refusal::HeaderTooLong => "the header has more than 4,096 bytes",
             Refusal::BufferTooShort => "a buffer can't hold what belongs in it",
-            Refusal::NotDerived => "the header isn't JSON by the grammar, or goes deeper than 8",
+            Refusal::NotDerived => "the header isn't JSON by the grammar, or goes deeper than 16",
             Refusal::NameTwice => "an object in the header has a name twice",
             Refusal::WrongKind => "`alg` is missing, or a member with a meaning isn't what it must be",
             Refusal::Critical => "`crit` breaks its rules, or `fmt` stands there and isn't listed",

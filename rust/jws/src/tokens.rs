@@ -7,9 +7,9 @@ use crate::words::{places, size, word};
 use crate::{Refusal, Refused};
 
 /// No token has more bytes: a buffer of this length is long enough for any that is signed.
-pub const TOKEN_MAX: usize = 16_384;
+pub const TOKEN_MAX: usize = 32_768;
 /// No header has more bytes: a buffer of this length is long enough for that of any token.
-pub const HEADER_MAX: usize = 1_024;
+pub const HEADER_MAX: usize = 4_096;
 /// No payload of a token has more bytes: a buffer of this length is long enough for any.
 pub const PAYLOAD_MAX: usize = TOKEN_MAX / 4 * 3;
 
