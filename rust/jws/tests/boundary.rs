@@ -10,7 +10,7 @@ use std::io::Write;
 use std::path::{Path, PathBuf};
 use std::process::{Command, Stdio};
 
-use common::{deepest_headers, token_of};
+use common::{deepest_headers, token_of, LONG_PAYLOAD};
 use jws::ffi::{MEMBER_WORDS, RECORD_WORDS};
 
 const HERE: &str = env!("CARGO_MANIFEST_DIR");
@@ -168,7 +168,7 @@ fn stack_of_a_call() {
             assert_eq!(answer, expected, "{header}");
             reading = reading.max(bytes);
         }
-        for payload in [&b""[..], &[b'p'; 11_000]] {
+        for payload in [&b""[..], &LONG_PAYLOAD] {
             let token = token_of(&header, payload, &keys[32..]);
             let (answer, bytes) = stack_of(&program, "verify", &table, &token);
             assert_eq!(answer, expected, "{header}");

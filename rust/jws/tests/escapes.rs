@@ -6,6 +6,8 @@ mod common;
 use case_generator::header::quoted;
 use case_generator::rng::Rng;
 use common::{cases, raw_member, sign, table_of, token_of, verify};
+use jws::{HEADER_MAX, TOKEN_MAX};
+use reference::limits::DEPTH_MAX;
 
 const SEED: u64 = 37;
 const DIGITS: &[u8; 22] = b"0123456789ABCDEFabcdef";
@@ -166,17 +168,17 @@ fn one_name_spelled_twice_at_every_depth() {
         (r"a\u006cg", r"a\u006Cg"),
         (r"a\u006cg", "alg"),
     ] {
-        for depth in 1..=9 {
+        for depth in 1..=DEPTH_MAX + 1 {
             let one_name = format!("{{\"{first}\":0,\"y\":0,\"{second}\":1}}");
             assert_eq!(
                 answer(nested(depth, &one_name)),
-                if depth < 9 { 8 } else { 7 },
+                if depth <= DEPTH_MAX { 8 } else { 7 },
                 "{depth}: {one_name}"
             );
             let two_names = format!("{{\"{first}\":0,\"y\":0,\"{second}.\":1}}");
             assert_eq!(
                 answer(nested(depth, &two_names)),
-                if depth < 9 { 0 } else { 7 },
+                if depth <= DEPTH_MAX { 0 } else { 7 },
                 "{depth}: {two_names}"
             );
         }
@@ -206,9 +208,9 @@ fn known_members_by_escapes() {
     for case in 0..cases() / 10 {
         let rng = &mut Rng::of_case(SEED, case as u64);
         let header = known(rng, NAMES);
-        let signed = sign(header.as_bytes(), b"p", &table, 1_500);
+        let signed = sign(header.as_bytes(), b"p", &table, TOKEN_MAX);
         assert_eq!(signed.answer, 0, "{header}");
-        let verified = verify(signed.token(), &table, 1_024, 1);
+        let verified = verify(signed.token(), &table, HEADER_MAX, 1);
         assert_eq!(verified.words[2..5], [0, 1, 1], "{header}");
         assert_eq!([verified.words[6], verified.words[8]], [18, 12], "{header}");
         // With one name in capital letters, it is another name.
@@ -218,9 +220,9 @@ fn known_members_by_escapes() {
             names[i] = &capital;
             let header = known(rng, names);
             let token = token_of(&header, b"p", SECRET);
-            assert_eq!(verify(&token, &table, 1_024, 1).answer, expected, "{header}");
+            assert_eq!(verify(&token, &table, HEADER_MAX, 1).answer, expected, "{header}");
             assert_eq!(
-                sign(header.as_bytes(), b"p", &table, 1_500).answer,
+                sign(header.as_bytes(), b"p", &table, TOKEN_MAX).answer,
                 expected,
                 "{header}"
             );

@@ -9,6 +9,7 @@ use std::thread;
 use case_generator::header::quoted;
 use case_generator::rng::Rng;
 use common::{cases_or, python, sign, table_of, verify};
+use jws::{HEADER_MAX, TOKEN_MAX};
 
 const SEED: u64 = 61;
 
@@ -92,7 +93,7 @@ fn its_tokens_are_accepted_and_signed_again() {
     };
     let mut small = [0; 2];
     for (case, token) in cases.iter().zip(&tokens) {
-        let verified = verify(token.as_bytes(), &case.table(), 1_024, 40);
+        let verified = verify(token.as_bytes(), &case.table(), HEADER_MAX, 40);
         assert_eq!(verified.answer, 0, "{:?}: {token}", case.kid);
         let (header, payload) = verified.parts();
         assert_eq!(payload, case.payload);
@@ -112,7 +113,7 @@ fn it_accepts_what_is_signed_here() {
     let request = |(i, case): (usize, &Case)| {
         let kid = quoted(&mut Rng::of_case(SEED, i as u64), &case.kid, 1 + i % 3);
         let header = format!("{{\"alg\":\"HS256\",\"kid\":{kid}}}");
-        let signed = sign(header.as_bytes(), &case.payload, &case.table(), 1_024);
+        let signed = sign(header.as_bytes(), &case.payload, &case.table(), TOKEN_MAX);
         assert_eq!(signed.answer, 0, "{header}");
         format!("verify {} {}", hex(&case.secret), hex(signed.token()))
     };

@@ -61,7 +61,7 @@ fn token_lengths() {
     assert_eq!(verify(&longer, &table, HEADER_MAX, PAYLOAD_MAX).answer, 1);
     assert_eq!(verify(&longer, &[], 0, 0).answer, 1);
     let longer = [&LONGEST_PAYLOAD[..], b"p"].concat();
-    assert_eq!(sign(header, &longer, &table, 20_000).answer, 1);
+    assert_eq!(sign(header, &longer, &table, 2 * TOKEN_MAX).answer, 1);
     assert_eq!(verify(&[b'A'; TOKEN_MAX], &table, HEADER_MAX, PAYLOAD_MAX).answer, 3);
     assert_eq!(
         verify(&[b'A'; TOKEN_MAX + 1], &table, HEADER_MAX, PAYLOAD_MAX).answer,
@@ -74,12 +74,13 @@ fn token_lengths() {
 fn header_lengths() {
     let table = one_key();
     let padded = |length: usize| format!("{HEADER:length$}").into_bytes();
-    let signed = sign(&padded(HEADER_MAX), b"", &table, 2_000);
-    assert_eq!((signed.answer, signed.length), (0, 1_366 + 45));
+    let signed = sign(&padded(HEADER_MAX), b"", &table, TOKEN_MAX);
+    let length = reference::token::token_len(HEADER_MAX, 0) as u64;
+    assert_eq!((signed.answer, signed.length), (0, length));
     assert_eq!(verify(signed.token(), &table, HEADER_MAX, 0).answer, 0);
-    assert_eq!(sign(&padded(HEADER_MAX + 1), b"", &table, 2_000).answer, 5);
+    assert_eq!(sign(&padded(HEADER_MAX + 1), b"", &table, TOKEN_MAX).answer, 5);
     let token = format!("{}..", reference::base64url::encode(&padded(HEADER_MAX + 1)));
-    assert_eq!(verify(token.as_bytes(), &table, 2_000, 0).answer, 5);
+    assert_eq!(verify(token.as_bytes(), &table, 2 * HEADER_MAX, 0).answer, 5);
     assert_eq!(verify(token.as_bytes(), &table, 0, 0).answer, 5);
 }
 

@@ -22,7 +22,7 @@ use std::collections::BTreeMap;
 use std::path::Path;
 
 use call::{Call, Function, Outcome};
-use common::{by_answer, deepest_headers, token_of, Calls, GARBAGE, NO_CALLS};
+use common::{by_answer, deepest_headers, token_of, Calls, GARBAGE, LONG_PAYLOAD, NO_CALLS};
 use jws::ffi::RECORD_WORDS;
 use jws::{HEADER_MAX, PAYLOAD_MAX, TOKEN_MAX};
 use published::{named, nameless, SignedToken, A1_TABLE};
@@ -208,7 +208,7 @@ fn deepest() -> Vec<Figure> {
     let (mut verifying, mut signing, mut reading) = (Vec::new(), Vec::new(), Vec::new());
     for (header, answer) in deepest_headers() {
         let answer = u64::from(answer);
-        for payload in [&b""[..], &[b'p'; 11_000]] {
+        for payload in [&b""[..], &LONG_PAYLOAD] {
             verifying.push(("stack verify", verify(&signed(&header, payload)), answer));
         }
         signing.push(("stack sign", sign(header.as_bytes(), b""), answer));

@@ -9,7 +9,8 @@ pub mod rfc7520;
 use std::io::ErrorKind;
 use std::process::{Child, Command, Stdio};
 
-use jws::{ffi, Refusal};
+use jws::{ffi, Refusal, TOKEN_MAX};
+use reference::limits::DEPTH_MAX;
 
 /// How many cases a test runs: `CASES` of the environment, or this many.
 pub fn cases_or(count: usize) -> usize {
@@ -269,8 +270,11 @@ pub fn calls_by_answer(calls: &Calls) -> String {
 /// up to the longest.
 pub const HEADER: &str = r#"{"alg":"HS256", "kid":"k"}"#;
 
-/// The payload that does so under [`HEADER`]: two periods and 43 characters of signature leave it 16,304.
-pub const LONGEST_PAYLOAD: [u8; 12_228] = [b'p'; 12_228];
+/// The payload that does so under [`HEADER`]: it has all characters but these, two periods and 43 of signature.
+pub const LONGEST_PAYLOAD: [u8; (TOKEN_MAX - 35 - 45) / 4 * 3] = [b'p'; (TOKEN_MAX - 35 - 45) / 4 * 3];
+
+/// A long payload, that fits a token with any of [`deepest_headers`].
+pub const LONG_PAYLOAD: [u8; TOKEN_MAX / 3 * 2] = [b'p'; TOKEN_MAX / 3 * 2];
 
 /// The table of one key, id `k`, HS256 and format 1, of the secret that it ends with.
 pub fn one_key() -> Vec<u8> {
@@ -293,22 +297,23 @@ pub fn rfc7520_table() -> Vec<u8> {
     table_of(rfc7520::KEY_ID.as_bytes(), &secret.try_into().expect("32 bytes"))
 }
 
-/// Headers whose last member nests seven deep, of arrays and objects, with values of several kinds inside; and eight
-/// deep, which is refused. Each with its answer.
+/// Headers that are as deep as can be, of arrays and objects in their last member, with values of several kinds inside;
+/// and one level deeper, which is refused. Each with its answer.
 pub fn deepest_headers() -> Vec<(String, u8)> {
     let mut headers = Vec::new();
     for inner in ["0", "\"\u{10FFFF}\"", "\"\\uDBFF\\uDFFF\"", "-1.5e3", "true"] {
-        for depth in [7, 8] {
+        for depth in [DEPTH_MAX, DEPTH_MAX + 1] {
             for brackets in ["[[", "{{", "[{", "{["] {
                 let (mut open, mut close) = (String::new(), String::new());
-                for level in 0..depth {
+                // The top object is the first level.
+                for level in 1..depth {
                     let array = brackets.as_bytes()[level % 2] == b'[';
                     open.push_str(if array { "[" } else { "{\"\u{10FFFF}\":" });
                     close.insert(0, if array { ']' } else { '}' });
                 }
                 let known = r#""alg":"HS256","kid":"RFC 7515 A.1","crit":["fmt"],"fmt":1"#;
                 let header = format!("{{{known},\"x\":{open}{inner}{close}}}");
-                headers.push((header, if depth == 7 { 0 } else { 7 }));
+                headers.push((header, if depth == DEPTH_MAX { 0 } else { 7 }));
             }
         }
     }
