@@ -8,7 +8,7 @@ A function's frame is its return address, what it pushes and what it takes off t
 frames. Of an archive for x86-64 both are read off the instructions; of an object (not an archive) for another processor the frames are what
 the compiler says of them, in its sections .stack_sizes (-fstack-size-section), and the calls its relocations.
 
-The readers of values, arrays and objects call one another: a round through them takes a level of the depth, of which there are eight, and a
+The readers of values, arrays and objects call one another: a round through them takes a level of the depth, of which there are sixteen, and a
 path past the last round may still enter each of them before the limit refuses it. memset and memcpy are the caller's and are not counted.
 """
 import re
@@ -17,7 +17,7 @@ import sys
 
 from elf import FUNCTION, REL, RELA, SECTION, Object, leb128
 
-ROUNDS = 8
+ROUNDS = 16
 
 
 def read_sizes(path):
