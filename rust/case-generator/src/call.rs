@@ -2,6 +2,7 @@
 
 use reference::base64url::{decoded_len, encode};
 use reference::hmac::hmac_sha256;
+use reference::limits::{HEADER_MAX, TOKEN_MAX};
 use reference::table::Key;
 use reference::{json, rules, token};
 
@@ -51,7 +52,7 @@ pub fn member_case(rng: &mut Rng) -> MemberCase {
     let header = header::header(rng);
     let count = json::read(&header).map_or(2, |members| members.len());
     let k = match rng.below(12) {
-        0 => rng.pick(&[count, count + 1, 255, 256, 1_024, usize::MAX / 2, usize::MAX]),
+        0 => rng.pick(&[count, count + 1, 255, 256, HEADER_MAX, usize::MAX / 2, usize::MAX]),
         _ => rng.below(count + 1),
     };
     MemberCase { header, k }
@@ -111,12 +112,12 @@ fn header_for_call(rng: &mut Rng, keys: &[Key]) -> Vec<u8> {
     }
 }
 
-/// A short payload mostly; at times one that makes a token of about 16,384 bytes.
+/// A short payload mostly; at times one that makes about the longest token.
 fn payload_for_call(rng: &mut Rng, header_length: usize) -> Vec<u8> {
-    let length = match rng.below(30) {
+    let length = match rng.below(40) {
         0 => {
             let characters = rng
-                .within(16_380..=16_388)
+                .within(TOKEN_MAX - 4..=TOKEN_MAX + 4)
                 .saturating_sub(token::token_len(header_length, 0));
             decoded_len(characters)
         }
@@ -168,7 +169,7 @@ fn damage(rng: &mut Rng, token: &mut Vec<u8>) {
     match rng.below(24) {
         0 | 1 => bytes::mutate_some(rng, token),
         2 => {
-            let length = rng.within(16_383..=16_386);
+            let length = rng.within(TOKEN_MAX - 1..=TOKEN_MAX + 2);
             if token.len() < length {
                 token.resize(length, rng.pick(b"A."));
             }

@@ -1,5 +1,7 @@
 //! Headers: trees of JSON values written in many ways, known members right and wrong, and damage.
 
+use reference::limits::{DEPTH_MAX, HEADER_MAX};
+
 use crate::bytes;
 use crate::rng::Rng;
 
@@ -34,9 +36,12 @@ pub fn header(rng: &mut Rng) -> Vec<u8> {
     finish(rng, members)
 }
 
-/// As many members as fit, 20 to 150, of short names that are apart but for one pair at times.
+/// Many members of short names that are apart but for one pair at times: 20 to 150 mostly, and at times about as many as fit a header.
 fn crowded(rng: &mut Rng) -> Vec<(String, Json)> {
-    let count = rng.within(20..=150);
+    let count = match rng.below(30) {
+        0 => rng.within(HEADER_MAX / 16..=HEADER_MAX / 8),
+        _ => rng.within(20..=150),
+    };
     let mut list: Vec<(String, Json)> = (0..count).map(|i| (format!("{i:X}"), raw("0"))).collect();
     if rng.one_in(3) {
         list[rng.below(count)].0 = list[rng.below(count)].0.clone();
@@ -94,7 +99,7 @@ fn finish(rng: &mut Rng, mut members: Vec<(String, Json)>) -> Vec<u8> {
         }
         11 => damage_escape(rng, &mut header),
         12 if rng.one_in(4) => {
-            let length = rng.below(1_030);
+            let length = rng.below(HEADER_MAX + 6);
             header = rng.bytes(length);
         }
         _ => {}
@@ -113,9 +118,9 @@ fn damage_escape(rng: &mut Rng, header: &mut [u8]) {
     }
 }
 
-/// White space after the header, or a long member, to about 1,024 bytes.
+/// White space after the header, or a long member, to about the longest header.
 fn around_limit(rng: &mut Rng, header: &mut Vec<u8>) {
-    let target = rng.within(1_018..=1_030);
+    let target = rng.within(HEADER_MAX - 6..=HEADER_MAX + 6);
     if header.len() >= target {
         header.truncate(target);
     } else if rng.one_in(2) {
@@ -268,7 +273,7 @@ fn members(rng: &mut Rng, count: usize, depth: usize) -> Vec<(String, Json)> {
 
 /// A value; arrays and objects in it have depth `depth` or more.
 fn value(rng: &mut Rng, depth: usize) -> Json {
-    let simple = rng.one_in(2) || depth > 8;
+    let simple = rng.one_in(2) || depth > DEPTH_MAX;
     match if simple { rng.below(7) } else { rng.below(9) } {
         0 | 1 => Json::String(text(rng)),
         2 | 3 => raw(&number(rng)),
@@ -286,17 +291,20 @@ fn value(rng: &mut Rng, depth: usize) -> Json {
     }
 }
 
-/// Arrays and objects nested to depth 6 to 10 of the header.
+/// Arrays and objects nested to about the greatest depth: the header goes from two levels less to two levels more.
 fn deep(rng: &mut Rng) -> Json {
-    let mut inner = if rng.one_in(2) { raw("0") } else { Json::Array(vec![]) };
-    for _ in 0..rng.within(5..=8) {
-        inner = if rng.one_in(2) {
-            Json::Array(vec![inner])
-        } else {
-            Json::Object(vec![("d".into(), inner)])
-        };
+    let inner = if rng.one_in(2) { raw("0") } else { Json::Array(vec![]) };
+    let levels = rng.within(DEPTH_MAX - 3..=DEPTH_MAX);
+    (0..levels).fold(inner, |inner, _| nested(rng.one_in(2), inner))
+}
+
+/// A value in an array, or in an object.
+fn nested(in_array: bool, inner: Json) -> Json {
+    if in_array {
+        Json::Array(vec![inner])
+    } else {
+        Json::Object(vec![("d".into(), inner)])
     }
-    inner
 }
 
 fn number(rng: &mut Rng) -> String {
@@ -377,9 +385,16 @@ fn odd_name(rng: &mut Rng) -> String {
         .to_string()
 }
 
-/// Values on both sides of the grammar.
+/// Values on both sides of the grammar, and of the depth where they stand in the top object.
 fn odd_value(rng: &mut Rng) -> Json {
-    Json::Raw(rng.pick(ODD_VALUES).to_vec())
+    match rng.below(ODD_VALUES.len() + 4) {
+        odd if odd < ODD_VALUES.len() => Json::Raw(ODD_VALUES[odd].to_vec()),
+        _ => {
+            let (in_arrays, levels) = (rng.one_in(2), DEPTH_MAX - 2 + rng.below(2));
+            let empty = if in_arrays { raw("[]") } else { raw("{}") };
+            (0..levels).fold(empty, |inner, _| nested(in_arrays, inner))
+        }
+    }
 }
 
 /// Some are derived by the grammar and some are not.
@@ -476,10 +491,6 @@ const ODD_VALUES: &[&[u8]] = &[
     b"\"\xF4\x90\x80\x80\"",
     b"\"\xF5\x80\x80\x80\"",
     b"\"\xFF\"",
-    b"[[[[[[[]]]]]]]",
-    b"[[[[[[[[]]]]]]]]",
-    b"{\"a\":{\"a\":{\"a\":{\"a\":{\"a\":{\"a\":{}}}}}}}",
-    b"{\"a\":{\"a\":{\"a\":{\"a\":{\"a\":{\"a\":{\"a\":{}}}}}}}}",
     b"0 0",
     b"0,0",
     b"/**/0",

@@ -29,7 +29,7 @@ pub fn base64url_texts(seed: u64) -> impl Iterator<Item = Vec<u8>> {
     cases(seed, text::text)
 }
 
-/// Headers: right, wrong by a rule, wrong by the grammar, mutated byte by byte, and around 1,024 bytes.
+/// Headers: right, wrong by a rule, wrong by the grammar, mutated byte by byte, and around the limits of length and depth.
 pub fn headers(seed: u64) -> impl Iterator<Item = Vec<u8>> {
     cases(seed, header::header)
 }

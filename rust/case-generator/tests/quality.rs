@@ -1,10 +1,10 @@
 //! The generator reaches every answer, often enough to compare implementations by.
 
-use reference::answer::NO_KEY;
+use reference::answer::{NOT_DERIVED, NO_KEY};
 use reference::json::{member, read};
-use reference::limits::{KEYS_MAX, TABLE_MAX};
+use reference::limits::{DEPTH_MAX, HEADER_MAX, KEYS_MAX, TABLE_MAX, TOKEN_MAX};
 use reference::rules::choose;
-use reference::token::{sign, verify};
+use reference::token::{sign, token_len, verify};
 use reference::{base64url, table};
 
 const SEED: u64 = 20_240_607;
@@ -119,18 +119,83 @@ fn escapes_in_both_cases() {
 
 #[test]
 fn headers_of_all_lengths_around_the_limit() {
-    let mut lengths = [0; 1_100];
-    let mut most_members = 0;
+    let mut lengths = [0; HEADER_MAX + 7];
+    let (mut longest_read, mut most_members, mut bytes) = (0, 0, 0);
     for header in case_generator::headers(SEED).take(20_000) {
-        lengths[header.len().min(1_099)] += 1;
-        most_members = most_members.max(read(&header).map_or(0, |members| members.len()));
+        lengths[header.len().min(HEADER_MAX + 6)] += 1;
+        bytes += header.len();
+        if let Ok(members) = read(&header) {
+            longest_read += usize::from(header.len() == HEADER_MAX);
+            most_members = most_members.max(members.len());
+        }
     }
-    assert!(
-        lengths[1_020..=1_028].iter().all(|&count| count > 20),
-        "{:?}",
-        &lengths[1_018..=1_030]
-    );
-    assert!(most_members >= 100);
+    let around = &lengths[HEADER_MAX - 6..];
+    let mean = bytes / 20_000;
+    println!("headers around the limit: {around:?}, {longest_read} of the longest read; {mean} bytes on average");
+    println!("{most_members} members at most");
+    assert!(around.iter().all(|&count| count > 20), "{around:?}");
+    assert!(longest_read > 20);
+    assert!(most_members >= 500);
+    assert!(mean <= 700, "many cases take their time");
+}
+
+/// The places in a header at which something opens or closes, each with the depth that is reached there; what stands in strings doesn't count.
+fn levels(header: &[u8]) -> Vec<(usize, usize)> {
+    let (mut levels, mut depth, mut in_string, mut escaped) = (Vec::new(), 0_usize, false, false);
+    for (at, byte) in header.iter().enumerate() {
+        match byte {
+            _ if escaped => escaped = false,
+            b'\\' => escaped = in_string,
+            b'"' => in_string = !in_string,
+            b'{' | b'[' if !in_string => {
+                depth += 1;
+                levels.push((at, depth));
+            }
+            b'}' | b']' if !in_string => {
+                levels.push((at, depth));
+                depth = depth.saturating_sub(1);
+            }
+            _ => {}
+        }
+    }
+    levels
+}
+
+/// The header with a number in the place of each array and object that is too deep.
+fn made_shallow(header: &[u8]) -> Vec<u8> {
+    let too_deep = |(_, depth): &&(usize, usize)| *depth == DEPTH_MAX + 1;
+    let levels = levels(header);
+    let ends: Vec<usize> = levels.iter().filter(too_deep).map(|&(at, _)| at).collect();
+    let (mut shallow, mut at) = (Vec::new(), 0);
+    for pair in ends.chunks_exact(2) {
+        shallow.extend(&header[at..pair[0]]);
+        shallow.push(b'0');
+        at = pair[1] + 1;
+    }
+    shallow.extend(&header[at..]);
+    shallow
+}
+
+/// Headers of the greatest depth are read, and others are refused for their depth alone.
+#[test]
+fn headers_of_all_depths_around_the_limit() {
+    let (mut read_at, mut refused_at) = ([0; DEPTH_MAX + 3], [0; DEPTH_MAX + 3]);
+    for header in case_generator::headers(SEED).take(20_000) {
+        let depth = levels(&header).iter().map(|&(_, depth)| depth).max().unwrap_or(0);
+        let tally = match read(&header) {
+            Ok(_) => &mut read_at,
+            Err(NOT_DERIVED) if read(&made_shallow(&header)).is_ok() => &mut refused_at,
+            Err(_) => continue,
+        };
+        tally[depth.min(DEPTH_MAX + 2)] += 1;
+    }
+    println!("by depth: read {read_at:?}, refused for the depth {refused_at:?}");
+    for depth in DEPTH_MAX - 1..=DEPTH_MAX + 1 {
+        let often = [read_at[depth] >= 100, refused_at[depth] >= 100];
+        assert_eq!(often, [depth <= DEPTH_MAX, depth > DEPTH_MAX], "depth {depth}");
+    }
+    assert_eq!(read_at[DEPTH_MAX + 1..], [0; 2]);
+    assert_eq!(refused_at[..=DEPTH_MAX], [0; DEPTH_MAX + 1]);
 }
 
 #[test]
@@ -183,14 +248,36 @@ fn texts_good_and_bad() {
 
 #[test]
 fn tokens_around_the_limit() {
-    let lengths: Vec<usize> = case_generator::verify_cases(SEED)
+    let cases: Vec<_> = case_generator::verify_cases(SEED)
         .take(20_000)
-        .map(|case| case.token.len())
+        .filter(|case| case.token.len().abs_diff(TOKEN_MAX) <= 2)
         .collect();
-    for length in 16_382..=16_386 {
-        let count = lengths.iter().filter(|&&other| other == length).count();
-        assert!(count >= 10, "{length} bytes: {count} times");
+    for length in TOKEN_MAX - 2..=TOKEN_MAX + 2 {
+        let of_length = cases.iter().filter(|case| case.token.len() == length);
+        let answers = tally(of_length.map(|case| {
+            let (mut header, mut payload) = (vec![0; case.header_len], vec![0; case.payload_len]);
+            verify(&case.token, &case.table, &mut header, &mut payload).0
+        }));
+        println!("verify {length} bytes: {answers:?}");
+        assert!(answers.iter().sum::<usize>() >= 10, "{length} bytes: {answers:?}");
+        assert_eq!(answers[0] >= 3, length <= TOKEN_MAX, "{length} bytes: {answers:?}");
     }
+}
+
+/// Finished tokens on both sides of the limit that nothing else refuses.
+#[test]
+fn signed_tokens_around_the_limit() {
+    let mut signed = [[0; 2]; 2];
+    for case in case_generator::sign_cases(SEED).take(20_000) {
+        let length = token_len(case.header.len(), case.payload.len());
+        let answer = sign(&case.header, &case.payload, &case.table, &mut vec![0; case.token_len]).0;
+        if length.abs_diff(TOKEN_MAX) <= 4 && answer <= 1 {
+            signed[usize::from(length > TOKEN_MAX)][usize::from(answer)] += 1;
+        }
+    }
+    println!("signed or refused with 1: {signed:?}");
+    let [[short, never], [none, long]] = signed;
+    assert!(short >= 20 && long >= 20 && never + none == 0, "{signed:?}");
 }
 
 #[test]
