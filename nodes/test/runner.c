@@ -8,7 +8,9 @@
 #include "jws.h"
 #include "machine.h"
 
-enum { ARENA = 49152, GUARD = 16, AREAS = 4, WORDS_MAX = JWS_RECORD_WORDS, GUARD_WORDS = 2, STACK_ROOM = 12288 };
+enum { TABLE_MAX = 8192, GUARD = 16, AREAS = 4, WORDS_MAX = JWS_RECORD_WORDS, GUARD_WORDS = 2, STACK_ROOM = 16384 };
+/* The longest of each, and 8 KiB for guards and for what is longer, and refused. */
+enum { ARENA = JWS_TOKEN_MAX + TABLE_MAX + JWS_HEADER_MAX + JWS_PAYLOAD_MAX + 8192 };
 enum { LOOP = 100000 };
 enum { VERIFY = 1, SIGN = 2, MEMBER = 3, PAYLOAD = 4, BOUNDARY = 5 };
 

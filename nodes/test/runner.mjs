@@ -4,7 +4,8 @@
 // where runner.c has a loop's.
 import { closeSync, openSync, readFileSync, writeSync } from "node:fs";
 
-const GUARD = 16, GUARD_WORDS = 2, GARBAGE = 0xa5, ARENA = 49152, WORDS_MAX = 9;
+const GUARD = 16, GUARD_WORDS = 2, GARBAGE = 0xa5, WORDS_MAX = 9;
+const ARENA = 32768 + 8192 + 4096 + 24576 + 8192; // as runner.c has it
 const [, , file, rounds = "1"] = process.argv;
 const { exports: jws } = new WebAssembly.Instance(new WebAssembly.Module(readFileSync(file)), {});
 

@@ -9,6 +9,8 @@ use std::ops::Range;
 use std::ptr::null_mut;
 
 use jws::ffi::{self, MEMBER_WORDS, RECORD_WORDS};
+use jws::{HEADER_MAX, PAYLOAD_MAX, TOKEN_MAX};
+use reference::limits::TABLE_MAX;
 
 use crate::common::GARBAGE;
 
@@ -16,8 +18,8 @@ use crate::common::GARBAGE;
 const GAP: usize = 16;
 /// Words of garbage on each side of those that are written.
 const GUARDS: usize = 2;
-/// No arena is longer.
-const ARENA_MAX: usize = 49_152;
+/// No arena is longer: the longest of each area, and 8 KiB for garbage and for what is longer, and refused.
+const ARENA_MAX: usize = TOKEN_MAX + TABLE_MAX + HEADER_MAX + PAYLOAD_MAX + 8_192;
 
 /// The areas with the garbage between them.
 #[repr(align(16))]
