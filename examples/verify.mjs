@@ -7,7 +7,7 @@
 // holds its stack first and is free from __heap_base on; lengths are BigInts, as they are 64 bits wide.
 import { readFileSync } from "node:fs";
 
-const DONE = 0, BOUNDARY = 1, RECORD_WORDS = 9, HEADER_MAX = 1024, PAYLOAD_MAX = 12288, TOKEN_MAX = 16384, TABLE_MAX = 8192;
+const DONE = 0, BOUNDARY = 1, RECORD_WORDS = 9, HEADER_MAX = 4096, PAYLOAD_MAX = 24576, TOKEN_MAX = 32768, TABLE_MAX = 8192;
 const HEADER_LENGTH = 0, PAYLOAD_LENGTH = 1, KEY_INDEX = 2, FORMAT = 4;
 
 class Jws {

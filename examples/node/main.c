@@ -18,7 +18,10 @@ static const uint8_t table[60] = {
     '0', '1', '2', '3', '4', '5', '6', '7', '8', '9', 'a', 'b', 'c', 'd', 'e', 'f',
 };
 
-/* No token of this node's is longer; a decoded part has 3/4 of its bytes at most. */
+/*
+ * No token of this node's is longer; a decoded part has 3/4 of its bytes at most. The longest token that there is, JWS_TOKEN_MAX bytes, fits
+ * no board of 16 KiB: a line longer than this is never given to the library, and says nothing to this node.
+ */
 enum { TOKEN_ROOM = 512, PART_ROOM = TOKEN_ROOM / 4 * 3 };
 static uint8_t token[TOKEN_ROOM + 1], header[PART_ROOM], payload[PART_ROOM];
 static uint32_t token_length;
