@@ -271,10 +271,10 @@ pub fn calls_by_answer(calls: &Calls) -> String {
 pub const HEADER: &str = r#"{"alg":"HS256", "kid":"k"}"#;
 
 /// The payload that does so under [`HEADER`]: it has all characters but these, two periods and 43 of signature.
-pub const LONGEST_PAYLOAD: [u8; (TOKEN_MAX - 35 - 45) / 4 * 3] = [b'p'; (TOKEN_MAX - 35 - 45) / 4 * 3];
+pub static LONGEST_PAYLOAD: [u8; (TOKEN_MAX - 35 - 45) / 4 * 3] = [b'p'; (TOKEN_MAX - 35 - 45) / 4 * 3];
 
 /// A long payload, that fits a token with any of [`deepest_headers`].
-pub const LONG_PAYLOAD: [u8; TOKEN_MAX / 3 * 2] = [b'p'; TOKEN_MAX / 3 * 2];
+pub static LONG_PAYLOAD: [u8; TOKEN_MAX / 3 * 2] = [b'p'; TOKEN_MAX / 3 * 2];
 
 /// The table of one key, id `k`, HS256 and format 1, of the secret that it ends with.
 pub fn one_key() -> Vec<u8> {
