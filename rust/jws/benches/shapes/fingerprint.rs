@@ -23,7 +23,14 @@ pub fn after(state: u64, text: &str) -> u64 {
 pub type Stage = [&'static str; 2];
 
 /// Stages that `find_collisions` found, from [`START`] on.
-pub const STAGES: &[Stage] = &[];
+pub const STAGES: &[Stage] = &[
+    ["\u{6ecf}\u{8e0a}\u{afe0}\u{c870}", "\u{ebf9}\u{c89f}\u{5c43}\u{2a68}"],
+    ["\u{4bde}\u{8be}\u{1736}\u{b24c}", "\u{1dd02}\u{1d9af}\u{4bd0}\u{cea8}"],
+    ["\u{e29d}\u{4008}\u{2094}\u{c3fd}", "\u{4034}\u{5da0}\u{16f1}\u{7e27}"],
+    ["\u{9141}\u{8d75}\u{95fa}\u{1dce1}", "\u{eb38}\u{1da39}\u{5783}\u{c281}"],
+    ["\u{9fb0}\u{bf55}\u{3d26}\u{bd3d}", "\u{1f7c}\u{434d}\u{fd51}\u{6be3}"],
+    ["\u{b20}\u{1069e}\u{e551}\u{5b02}", "\u{543e}\u{edd4}\u{9908}\u{c88e}"],
+];
 
 /// All names of one segment for each stage. They differ and have one fingerprint.
 pub fn colliding(stages: &[Stage]) -> Vec<String> {
