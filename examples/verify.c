@@ -48,9 +48,9 @@ static void sign(void)
 
 /*
  * The calls' own stack. On a node this is the stack of a task that makes these calls and no others, and whoever waits for it clears it.
- * By its object code a call takes less than 8,192 bytes; the rest is for memset and memcpy, and for signals or interrupts.
+ * By its object code a call takes at most 5,080 bytes; the rest is for memset and memcpy, and for signals or interrupts.
  */
-enum { CALL_STACK = 8192 + 8192 };
+enum { CALL_STACK = 5080 + 8192 };
 static uint8_t call_stack[CALL_STACK];
 static ucontext_t here, there;
 

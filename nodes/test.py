@@ -32,7 +32,7 @@ TIMED = ["verify 179", "verify 16000", "sign 179", "sign 16000"]  # the first of
 KINDS = ["verify", "sign", "member"]
 MINUTES = 10  # what is done in seconds, and isn't by then, hangs
 # The most text, and the most stack of verifying, that an archive may have.
-LIMITS = {"thumbv7em": (21_000, 8_000)}
+LIMITS = {"thumbv7em": (21_000, 5_000)}
 
 
 def read(name):

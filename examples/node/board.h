@@ -13,7 +13,7 @@ void board_send(uint8_t byte);
  * CALL_STACK has the most that jws_verify takes on a Cortex-M0 for the deepest header, whatever buffers it is lent (`make nodes` says it),
  * and room for its caller, for memset and for an interrupt.
  */
-enum { CALL_STACK = 8320 + 256 };
+enum { CALL_STACK = 5440 + 256 };
 void on_call_stack(void (*call)(void));
 
 #endif

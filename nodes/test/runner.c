@@ -8,7 +8,7 @@
 #include "jws.h"
 #include "machine.h"
 
-enum { TABLE_MAX = 8192, GUARD = 16, AREAS = 4, WORDS_MAX = JWS_RECORD_WORDS, GUARD_WORDS = 2, STACK_ROOM = 16384 };
+enum { TABLE_MAX = 8192, GUARD = 16, AREAS = 4, WORDS_MAX = JWS_RECORD_WORDS, GUARD_WORDS = 2, STACK_ROOM = 12288 };
 /* The longest of each, and 8 KiB for guards and for what is longer, and refused. */
 enum { ARENA = JWS_TOKEN_MAX + TABLE_MAX + JWS_HEADER_MAX + JWS_PAYLOAD_MAX + 8192 };
 enum { LOOP = 100000 };

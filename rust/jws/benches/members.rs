@@ -100,6 +100,8 @@ fn longest() -> f64 {
         .map(|i| (least(SEARCH_ROUNDS, || proved(&shapes[i].1, past)), i))
         .collect();
     times.sort_by(|a, b| b.0.total_cmp(&a.0));
+    let collide = |(_, i): &&(f64, usize)| shapes[*i].0.contains(shapes::COLLIDING);
+    let colliding = times.iter().find(collide).copied();
     times.truncate(AGAIN);
     for (time, i) in &mut times {
         *time = least(AGAIN_ROUNDS, || proved(&shapes[*i].1, past));
@@ -109,6 +111,13 @@ fn longest() -> f64 {
     println!("the slowest of {} headers: {}", shapes.len(), shapes[times[0].1].0);
     println!(
         "  {time:.0} ns, {slowest:.1} times member 0 of the first header above ({unit:.0} ns), at most {MOST_OF_PLAIN}"
+    );
+    let (time, i) = colliding.expect("names of one fingerprint");
+    println!(
+        "  {:.1} times: the slowest of those with {}: {}",
+        time / unit,
+        shapes::COLLIDING,
+        shapes[i].0
     );
     println!("the {SHOWN} slowest:");
     for (time, i) in times.iter().take(SHOWN) {

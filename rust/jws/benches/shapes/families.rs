@@ -1,5 +1,5 @@
-//! Headers that take long, by what costs time: names to be compared, values to be walked over again at each level, characters to be resolved,
-//! and faults that show at the very end.
+//! Headers that take long, by what costs time: names to be compared, levels that a reader might go over again and again, characters to be
+//! resolved, and faults that show at the very end.
 
 use std::collections::BTreeSet;
 
@@ -9,7 +9,7 @@ use reference::limits::DEPTH_MAX;
 use super::fingerprint::{colliding, STAGES};
 use super::parts::{array, depth_of, list, object, places, Around};
 use super::spelling::{Names, Written};
-use super::Shape;
+use super::{Shape, COLLIDING};
 
 /// Values of every kind, each as short as it can be or a little longer.
 const THINGS: [&str; 26] = [
@@ -159,18 +159,15 @@ fn counted_names(shapes: &mut Shapes) {
 /// Names that differ and have one fingerprint.
 fn colliding_names(shapes: &mut Shapes) {
     let names = colliding(STAGES);
-    if names.len() < 2 {
-        return;
-    }
     for value in ["0", "\"\"", "{}", "[]"] {
-        let label = format!("names of one fingerprint, values {value}");
+        let label = format!("{COLLIDING}, values {value}");
         shapes.add_at_places(1 + depth_of(value), &label, |room| {
             let member = |i: usize| format!("\"{}\":{value}", names[i]);
             format!("{{{}}}", list(room - 2, names.len(), member))
         });
     }
     for count in [2, 4, 8, 16, 32].into_iter().filter(|count| *count <= names.len()) {
-        let label = format!("objects of {count} names of one fingerprint side by side");
+        let label = format!("objects of {count} {COLLIDING} side by side");
         let members: Vec<String> = names[..count].iter().map(|name| format!("\"{name}\":0")).collect();
         let one = format!("{{{}}}", members.join(","));
         shapes.add_at_places(2, &label, |room| array(room, &one));

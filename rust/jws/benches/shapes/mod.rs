@@ -54,6 +54,9 @@ pub fn escaped() -> Vec<u8> {
     usual((0..MEMBERS).map(|i| format!("\"{}\":\"{}\"", escapes(i, 2), escapes(3 * i, 5))))
 }
 
+/// What the labels of headers have whose names collide.
+pub const COLLIDING: &str = "names of one fingerprint";
+
 /// A header with a label that says what it is.
 pub type Shape = (String, Vec<u8>);
 
