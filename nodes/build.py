@@ -145,7 +145,7 @@ def stack_bounds(kit, target, archive):
     return bounds(sizes)
 
 
-# Bytes of stack in the module's memory, below everything else: to run over is to trap. The deepest headers took less than a third of it.
+# Bytes of stack in the module's memory, below everything else: to run over is to trap. The deepest headers took less than a fifth of it.
 WASM_STACK = 16_384
 WASM_DATA = 11
 

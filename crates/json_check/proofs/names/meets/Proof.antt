@@ -5,7 +5,9 @@ use native.Mathlib.Omega.{arith}
 use lib.ListN.{length}
 use borrow.Author.Needs.{needs}
 use Rattle.json_check.proofs.MarkLaws.{name-told, opens-told, closes-told, nothing-told}
-use Rattle.json_check.proofs.NameLaws.{Without, Meeting}
+use Rattle.json_check.proofs.StackLaws.{Without}
+use Rattle.json_check.proofs.StackLaws as stack
+use Rattle.json_check.proofs.NameLaws.{Meeting}
 use Rattle.json_check.proofs.NameLaws as law
 use Rattle.json_check.proofs.names.meets.Statement.{statement}
 use Rattle.json_check.proofs.names.meets.Tie as tie
@@ -31,20 +33,20 @@ next-mark-requires c κs = c .pairs .inv .1 .high
 loop-holds : tie.Need-loop-holds Inv-loop μ-loop Inv-pairs μ-pairs
 loop-holds c =
     let i = c .before .before .before .before .before .before in
-    (omega arith, law.held-low (law.meeting-holds (i .pairs .inv .1) (i .before .before .pre .1)), law.without-start _)
+    (omega arith, stack.held-low (law.meeting-holds (i .pairs .inv .1) (i .before .before .pre .1)), stack.without-start _)
 
 same-by-fingerprint-requires : tie.Need-same-by-fingerprint-requires Inv-loop μ-loop Inv-pairs μ-pairs
 same-by-fingerprint-requires c κs =
     let l = c .before .before in
     let f = l .before .before in
     let i = f .before .before .before .before .before .before in
-    (f .fingerprint .ensures, law.held-print (law.meeting-holds (i .pairs .inv .1) (i .before .before .pre .1)) _ (l .before .loop .inv .0) (l .loop-test .taken))
+    (f .fingerprint .ensures, stack.held-print (law.meeting-holds (i .pairs .inv .1) (i .before .before .pre .1)) _ (l .before .loop .inv .0) (l .loop-test .taken))
 
 loop-again : tie.Need-loop-again Inv-loop μ-loop Inv-pairs μ-pairs
 loop-again c =
     let l = c .before .before .before .before in
     let i = l .before .loop .inv in
-    (omega (arith, i .0), omega (arith, l .loop-test .taken), law.without-next (i .2) (i .0) (sym (c .before .same-by-fingerprint .ensures) ∙ c .if2 .left))
+    (omega (arith, i .0), omega (arith, l .loop-test .taken), stack.without-next (i .2) (i .0) (sym (c .before .same-by-fingerprint .ensures) ∙ c .if2 .left))
 
 pairs-less : tie.Need-pairs-less Inv-loop μ-loop Inv-pairs μ-pairs
 pairs-less c = let m = c .before .before .before .before .before in let h = name-told _ _ (m .before .before .next-mark .ensures) (m .mark .given .1) .shows in omega (arith, h .later, h .high)
@@ -54,7 +56,7 @@ pairs-again c =
     let f = c .before .before in
     let m = f .before .before .before in
     let i = m .before .before .before .pairs .inv in
-    (i .0, law.meeting-name (i .1) (name-told _ _ (m .before .before .next-mark .ensures) (m .mark .given .1)) (f .before .if1 .taken) (law.without-all (c .before .loop .inv) (c .loop-test .left)))
+    (i .0, law.meeting-name (i .1) (name-told _ _ (m .before .before .next-mark .ensures) (m .mark .given .1)) (f .before .if1 .taken) (stack.without-all (c .before .loop .inv) (c .loop-test .left)))
 
 pairs-less-2 : tie.Need-pairs-less-2 Inv-loop μ-loop Inv-pairs μ-pairs
 pairs-less-2 c = let m = c .before .before in let h = name-told _ _ (m .before .before .next-mark .ensures) (m .mark .given .1) .shows in omega (arith, h .later, h .high)
@@ -96,19 +98,19 @@ pairs-less-6 : tie.Need-pairs-less-6 Inv-loop μ-loop Inv-pairs μ-pairs
 pairs-less-6 c = let m = c .before .before .before .before in let h = closes-told _ _ (m .before .before .next-mark .ensures) (m .mark3 .given .1) in omega (arith, h .later, h .high)
 
 mul-base : tie.Need-mul-base Inv-loop μ-loop Inv-pairs μ-pairs
-mul-base c = let i = c .before .before .before .before .before .before in omega (arith, law.held-low (law.meeting-holds (i .pairs .inv .1) (i .before .before .pre .1)), i .pairs .inv .0)
+mul-base c = let i = c .before .before .before .before .before .before in omega (arith, stack.held-low (law.meeting-holds (i .pairs .inv .1) (i .before .before .pre .1)), i .pairs .inv .0)
 
 element-copy-out-base : tie.Need-element-copy-out-base Inv-loop μ-loop Inv-pairs μ-pairs
 element-copy-out-base c =
     let i = c .before .before .before .before .before .before in
-    omega (arith, law.held-low (law.meeting-holds (i .pairs .inv .1) (i .before .before .pre .1)), i .pairs .inv .0, c .if4 .left)
+    omega (arith, stack.held-low (law.meeting-holds (i .pairs .inv .1) (i .before .before .pre .1)), i .pairs .inv .0, c .if4 .left)
 
 pairs-again-6 : tie.Need-pairs-again-6 Inv-loop μ-loop Inv-pairs μ-pairs
 pairs-again-6 c =
     let e = c .before in
     let m = e .before .before .before in
     let i = m .before .before .before in
-    (omega (arith, law.held-low (law.meeting-holds (i .pairs .inv .1) (i .before .before .pre .1)), i .pairs .inv .0), law.meeting-closes (i .pairs .inv .1) (closes-told _ _ (m .before .before .next-mark .ensures) (m .mark3 .given .1)) (omega (arith, e .before .if3 .left)) (e .if4 .left))
+    (omega (arith, stack.held-low (law.meeting-holds (i .pairs .inv .1) (i .before .before .pre .1)), i .pairs .inv .0), law.meeting-closes (i .pairs .inv .1) (closes-told _ _ (m .before .before .next-mark .ensures) (m .mark3 .given .1)) (omega (arith, e .before .if3 .left)) (e .if4 .left))
 
 returns : tie.Need-returns Inv-loop μ-loop Inv-pairs μ-pairs
 returns c = let n = c .before .before in law.meeting-last (n .before .pairs .inv .1) (nothing-told _ _ (n .next-mark .ensures) (c .enum-told .given .1))

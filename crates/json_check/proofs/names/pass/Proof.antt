@@ -5,7 +5,9 @@ use native.Mathlib.Omega.{arith}
 use lib.ListN.{length, length-set}
 use borrow.Author.Needs.{needs}
 use Rattle.json_check.proofs.MarkLaws.{name-told, opens-told, closes-told, nothing-told}
-use Rattle.json_check.proofs.NameLaws.{Without, Filling}
+use Rattle.json_check.proofs.StackLaws.{Without}
+use Rattle.json_check.proofs.StackLaws as stack
+use Rattle.json_check.proofs.NameLaws.{Filling}
 use Rattle.json_check.proofs.NameLaws as law
 use Rattle.json_check.proofs.names.pass.Statement.{statement}
 use Rattle.json_check.proofs.names.pass.Tie as tie
@@ -39,19 +41,19 @@ next-mark-requires : tie.Need-next-mark-requires Inv-loop μ-loop Inv-pairs μ-p
 next-mark-requires c κs = c .before .pairs .inv .3 .high
 
 loop-holds : tie.Need-loop-holds Inv-loop μ-loop Inv-pairs μ-pairs
-loop-holds c = (omega arith, law.held-low (c .before .before .before .before .before .before .pairs .inv .3 .holds), law.without-start _)
+loop-holds c = (omega arith, stack.held-low (c .before .before .before .before .before .before .pairs .inv .3 .holds), stack.without-start _)
 
 same-by-fingerprint-requires : tie.Need-same-by-fingerprint-requires Inv-loop μ-loop Inv-pairs μ-pairs
 same-by-fingerprint-requires c κs =
     let f = c .before .before in
     let i = f .before .before .before .before .before .before .pairs .inv in
-    (f .fingerprint .ensures, law.held-print (i .3 .holds) _ (c .before .loop .inv .0) (c .loop-test .taken))
+    (f .fingerprint .ensures, stack.held-print (i .3 .holds) _ (c .before .loop .inv .0) (c .loop-test .taken))
 
 loop-again : tie.Need-loop-again Inv-loop μ-loop Inv-pairs μ-pairs
 loop-again c =
     let l = c .before .before in
     let i = l .before .loop .inv in
-    (omega (arith, i .0), omega (arith, l .loop-test .taken), law.without-next (i .2) (i .0) (sym (c .before .same-by-fingerprint .ensures) ∙ c .if3 .left))
+    (omega (arith, i .0), omega (arith, l .loop-test .taken), stack.without-next (i .2) (i .0) (sym (c .before .same-by-fingerprint .ensures) ∙ c .if3 .left))
 
 pairs-less : tie.Need-pairs-less Inv-loop μ-loop Inv-pairs μ-pairs
 pairs-less c = let m = c .before .before .before .before in let h = name-told _ _ (m .before .before .next-mark .ensures) (m .mark .given .1) .shows in omega (arith, h .later, h .high)
@@ -65,7 +67,7 @@ pairs-again c =
       omega (arith, n .before .if1 .left),
       simp length-set (i .1),
       simp length-set (i .2),
-      law.filling-name (i .3) (name-told _ _ (n .next-mark .ensures) (m .mark .given .1)) _ (law.without-all (c .before .loop .inv) (c .loop-test .left)) (f .fingerprint .ensures)
+      law.filling-name (i .3) (name-told _ _ (n .next-mark .ensures) (m .mark .given .1)) _ (stack.without-all (c .before .loop .inv) (c .loop-test .left)) (f .fingerprint .ensures)
           (omega (arith, n .before .if1 .left, i .1)) (omega (arith, n .before .if1 .left, i .2)),
     )
 
@@ -80,10 +82,10 @@ pairs-again-2 c =
     (omega (arith, n .before .if1 .left), simp length-set (i .1), i .2, law.filling-opens (i .3) (opens-told _ _ (n .next-mark .ensures) (m .mark2 .given .1)) (omega (arith, n .before .if1 .left, i .1)))
 
 mul-base : tie.Need-mul-base Inv-loop μ-loop Inv-pairs μ-pairs
-mul-base c = let i = c .before .before .before .before .before .before .pairs .inv in omega (arith, law.held-low (i .3 .holds), i .0)
+mul-base c = let i = c .before .before .before .before .before .before .pairs .inv in omega (arith, stack.held-low (i .3 .holds), i .0)
 
 array-read-base : tie.Need-array-read-base Inv-loop μ-loop Inv-pairs μ-pairs
-array-read-base c = let i = c .before .before .before .before .before .before .pairs .inv in omega (arith, law.held-low (i .3 .holds), i .0, c .if4 .left)
+array-read-base c = let i = c .before .before .before .before .before .before .pairs .inv in omega (arith, stack.held-low (i .3 .holds), i .0, c .if4 .left)
 
 pairs-less-3 : tie.Need-pairs-less-3 Inv-loop μ-loop Inv-pairs μ-pairs
 pairs-less-3 c = let m = c .before .before in let h = closes-told _ _ (m .before .before .next-mark .ensures) (m .mark3 .given .1) in omega (arith, h .later, h .high)
@@ -103,7 +105,7 @@ pairs-again-4 c =
     let m = c .before .before in
     let n = m .before .before in
     let i = n .before .before .pairs .inv in
-    (omega (arith, law.held-low (i .3 .holds), i .0), i .1, i .2, law.filling-closes (i .3) (closes-told _ _ (n .next-mark .ensures) (m .mark3 .given .1)) (c .if4 .left))
+    (omega (arith, stack.held-low (i .3 .holds), i .0), i .1, i .2, law.filling-closes (i .3) (closes-told _ _ (n .next-mark .ensures) (m .mark3 .given .1)) (c .if4 .left))
 
 returns-3 : tie.Need-returns-3 Inv-loop μ-loop Inv-pairs μ-pairs
 returns-3 c = let n = c .before .before in law.filling-last (n .before .before .pairs .inv .3) (nothing-told _ _ (n .next-mark .ensures) (c .enum-told .given .1))
