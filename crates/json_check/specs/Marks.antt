@@ -15,15 +15,17 @@ pub record Shows (s : List ℕ) (p e : ℕ) (ms : List scan.Mark) : Type 0 where
   pub high : e ≤ length s
   pub is : (n : ℕ) → length (drop p s) ≤ n → (m : ℕ) × (length (drop e s) ≤ m) × (marks n (drop p s) ≡ ms ++ marks m (drop e s))
 
--- r is the first of the marks from p on
+-- the first is a name, whose characters begin at q
 pub record NameShown (s : List ℕ) (p q e : ℕ) : Type 0 where
   pub text : List ℕ
   pub stands : NameAt s q text
   pub shows : Shows s p e (name text ∷ [])
 
+-- there are none
 pub record NoMarks (s : List ℕ) (p : ℕ) : Type 0 where
   pub is : (n : ℕ) → length (drop p s) ≤ n → marks n (drop p s) ≡ []
 
+-- r is the first of the marks from p on, with the place after it
 unfoldable pub MarkAt : List ℕ → ℕ → Mark → Type 0
 MarkAt s p (Opens e) = Shows s p e (opens ∷ [])
 MarkAt s p (Closes e) = Shows s p e (closes ∷ [])
