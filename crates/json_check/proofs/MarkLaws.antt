@@ -1,8 +1,8 @@
 -- The next mark of a text: a law for each way through `next_mark`.
-use mathlib.Core.Path.{_≡_, refl, sym, ap, _∙_, subst}
+use mathlib.Core.Path.{_≡_, sym, ap, _∙_, subst}
 use mathlib.Core.Bool.{Bool, true, false}
 use mathlib.Core.List.{List, [], _∷_, _++_}
-use Prim.Native.Nat.{ℕ, zero, suc, _+_, _≤_, _<_}
+use Prim.Native.Nat.{ℕ, suc, _+_, _≤_, _<_}
 use native.Mathlib.Omega.{arith}
 use lib.Dec.{eqb}
 use lib.ListN.{length, drop, getD, drop-of-length-le}
@@ -11,6 +11,7 @@ use Rattle.json_grammar_rules.specs.CharLaws.{chars-fuel}
 use Rattle.json_grammar_rules.specs.Reader.{ws, readChars}
 use Rattle.json_grammar_rules.specs.Scan.{opens, closes, colonNext, marks-name, marks-string, marks}
 use Rattle.json_grammar_rules.specs.Scan as scan
+use Rattle.json_grammar_rules.specs.ScanLaws.{marks-front, marks-none}
 use Rattle.json_string.specs.declared.End.the-variants.{At, Bad}
 use Rattle.json_string.specs.Ends.{at-byte, left, shorter, fuel, ends-at, ends-bad}
 use Rattle.json_string.specs.Strings.{NameAt, StringEnds}
@@ -48,16 +49,8 @@ past s p e a Nothing h = record { is = λ n l. let i = a .is n l in i .2 ∙ h .
 -- NOTHING IS LEFT
 
 pub nothing-left : (s : List ℕ) (at : ℕ) → length s ≤ at → MarkAt s at Nothing
-unfolding MarkAt marks
-nothing-left s at h = record { is = λ n l. ap (marks n) (drop-of-length-le s h) ∙ none n }
-  where
-    none : (n : ℕ) → marks n [] ≡ []
-    none zero = refl
-    none (suc n) = refl
-
-marks-front : (u : Bool) (cs : List ℕ) (ms : List scan.Mark) → marks-name u cs ms ≡ marks-name u cs [] ++ ms
-marks-front true cs ms = refl
-marks-front false cs ms = refl
+unfolding MarkAt
+nothing-left s at h = record { is = λ n l. ap (marks n) (drop-of-length-le s h) ∙ marks-none n }
 
 module _ (s : List ℕ) (at : ℕ) (h : at < length s) where
   -- A BYTE, by what it shows

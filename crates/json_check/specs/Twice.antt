@@ -26,6 +26,7 @@ pub data Held (s a m : List ℕ) : ℕ → ℕ → List (List ℕ) → List (Lis
   outermost : {k : ℕ} {b : List (List ℕ)} → Names s a m 0 k b → Held s a m 0 k b []
   within : {j k : ℕ} {b c : List (List ℕ)} {o : List (List (List ℕ))} → Held s a m (getD a j 0) j c o → Names s a m (suc j) k b → Held s a m (suc j) k b (c ∷ o)
 
+-- some names are held so
 pub record Holds (s a m : List ℕ) (j k : ℕ) : Type 0 where
   pub inner : List (List ℕ)
   pub outer : List (List (List ℕ))

@@ -139,22 +139,22 @@ calm-token b w e t r =
 
 -- STRINGS
 
-string : (cs : Chars) (n : ℕ) (r : List ℕ) → length (yieldString cs r) ≤ n → (m : ℕ) × (length r ≤ m) × (marks n (yieldString cs r) ≡ marks-name (colonNext (ws r)) (codesOf cs) (marks m r))
+pub marks-front : (u : Bool) (cs : List ℕ) (ms : List Mark) → marks-name u cs ms ≡ marks-name u cs [] ++ ms
+marks-front true cs ms = refl
+marks-front false cs ms = refl
+
+-- a name where a colon follows, and else a value
+string : (u : Bool) (cs : Chars) → Marked (λ r. colonNext (ws r) ≡ u) (yieldString cs) (marks-name u (codesOf cs) [])
 unfolding yieldString marks
-string cs zero r h = absurd (omega arith)
-string cs (suc n) r h = (n, omega (arith, longer (Written.string cs) r), ap (marks-string (λ y. marks n y)) (complete-chars cs n r (omega arith)))
-
-value-string : (cs : Chars) → Marked Calm (yieldString cs) []
-value-string cs =
-    record {
-      from = λ n r c h. let i = string cs n r h in (i .0, i .1, i .2 ∙ ap (λ (t : Bool). marks-name t (codesOf cs) (marks (i .0) r)) c);
-    }
-
-name-string : (cs : Chars) → Marked (λ r. colonNext (ws r) ≡ true) (yieldString cs) (name (codesOf cs) ∷ [])
-name-string cs =
-    record {
-      from = λ n r c h. let i = string cs n r h in (i .0, i .1, i .2 ∙ ap (λ (t : Bool). marks-name t (codesOf cs) (marks (i .0) r)) c);
-    }
+string u cs = record { from = go }
+  where
+    go : (n : ℕ) (r : List ℕ) → colonNext (ws r) ≡ u → length (yieldString cs r) ≤ n → Marking n (yieldString cs r) (marks-name u (codesOf cs) []) r
+    go zero r c h = absurd (omega arith)
+    go (suc n) r c h = (
+      n,
+      omega (arith, longer (Written.string cs) r),
+      ap (marks-string (λ y. marks n y)) (complete-chars cs n r (omega arith)) ∙ ap (λ (t : Bool). marks-name t (codesOf cs) (marks n r)) c ∙ marks-front u (codesOf cs) (marks n r),
+    )
 
 -- NUMBERS
 
@@ -225,7 +225,7 @@ mutual
   value (objectT o) = calmly (object o)
   value (arrayT a) = calmly (array a)
   value (numberT n) = calmly (number n)
-  value (stringT cs) = value-string cs
+  value (stringT cs) = string false cs
 
   object : (o : ObjectTree) → Marked Any (yieldObject o) (marksValue (objectV (readingObject o)))
   object (object0 b e) = opening b then closing e
@@ -234,7 +234,7 @@ mutual
 
   -- a member, before the members ms
   member : (m : MemberTree) (ms : Members) {g : List ℕ → List ℕ} → ((r : List ℕ) → Calm r → Calm (g r)) → Marked Calm g (marksMembers ms) → Marked Calm (λ r. yieldMember m (g r)) (marksMembers (readingMember m ms))
-  member (pair cs c v) ms {g} k p = joined (λ r i. colon-token c (yieldValue v (g r))) (name-string cs) (separator 0x3A (refl, refl, refl) c then joined k (value v) p)
+  member (pair cs c v) ms {g} k p = joined (λ r i. colon-token c (yieldValue v (g r))) (string true cs) (separator 0x3A (refl, refl, refl) c then joined k (value v) p)
 
   members : (ms : MembersTail) → Marked Calm (yieldMembers ms) (marksMembers (readingMembers ms))
   members mend = nothing
@@ -330,7 +330,7 @@ mutual
 
 -- THE SCAN OF A TEXT
 
-marks-none : (n : ℕ) → marks n [] ≡ []
+pub marks-none : (n : ℕ) → marks n [] ≡ []
 unfolding marks
 marks-none zero = refl
 marks-none (suc n) = refl
