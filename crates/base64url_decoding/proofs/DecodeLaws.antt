@@ -1,18 +1,20 @@
--- Decoding a group more, and a rest.
+-- Decoding two groups more, a group alone, and what follows whole groups.
 use mathlib.Core.Path.{_≡_, refl, ap, sym, _∙_}
 use mathlib.Core.Bool.{Bool, true, false, _&&_, false≢true}
 use mathlib.Core.List.{List, [], _∷_}
 use Prim.Native.Nat.{ℕ, _+_, _-_, _*_, _/_, _%_, _≤_}
 use native.Mathlib.Omega.{arith}
 use lib.ListN.{length, getD, take, drop, set, take-append-drop}
-use lib.Seq.{length-take-le}
+use lib.Seq.{sets, take-add, length-take-le}
 use borrow.Rule.Slice.PartMut.{putMid}
-use Rattle.common.specs.Laid.{three-stores, part-from}
+use Rattle.common.specs.Laid.{six-stores, laid-stores, part-from}
 use Rattle.base64url_rules.specs.Base64url.{decode, alphabetic, unusedBits, strict}
 use Rattle.base64url_rules.specs.GroupLaws.{strict-append}
-use Rattle.base64url_rules.specs.Grouping.{decode-grouping, taken-more, group-more, then-rest}
+use Rattle.base64url_rules.specs.Grouping.{decode-grouping, part-more, then-rest}
+use Rattle.base64url_rules.specs.Listed.{as-entries}
 use Rattle.base64url_rules.specs.Tables.{entries}
-use Rattle.base64url_decoding.specs.Writing.{Decodes, Grouped}
+use Rattle.base64url_words.specs.Words.{Grouped}
+use Rattle.base64url_decoding.specs.Writing.{Decodes}
 
 pub not-strict : {s out₀ out : List ℕ} → strict s ≡ false → Decodes s out₀ false out
 not-strict e = record { answer = sym e; bytes = λ t. absurd (false≢true t) }
@@ -32,42 +34,52 @@ module _ (s : List ℕ) (n : ℕ) (groups : n % 4 ≡ 0) (h : n ≤ length s) wh
   pub front-refused : strict (take n s) ≡ false → strict s ≡ false
   front-refused e = rw e at strict-split
 
--- after i groups comes the next, of k = 4 characters
-module _ (s out₀ out : List ℕ) (i k : ℕ) (hk : k ≡ 4) (hs : i * 4 + 4 ≤ length s) (d : Decodes (take (i * 4) s) out₀ true out) where
+-- after i pairs of groups comes the next, of k = 8 characters
+module _ (s out₀ out : List ℕ) (i k : ℕ) (hk : k ≡ 8) (hs : i * 8 + 8 ≤ length s) (d : Decodes (take (i * 8) s) out₀ true out) where
   abbrev next : List ℕ
-  next = take k (drop (i * 4) s)
+  next = take k (drop (i * 8) s)
 
-  abbrev group : List ℕ
-  group = getD next 0 0 ∷ getD next 1 0 ∷ getD next 2 0 ∷ getD next 3 0 ∷ []
+  end : (i + 1) * 8 ≡ i * 8 + k
+  end = omega arith
 
-  strict-next : strict (take ((i + 1) * 4) s) ≡ strict group
-  unfolding entries
+  strict-next : strict (take ((i + 1) * 8) s) ≡ strict next
   strict-next =
-      let groups : length (take (i * 4) s) % 4 ≡ 0 = omega (arith, length-take-le (i * 4) s (omega arith)) in
-      ap strict (taken-more s (i * 4) k 4 ((i + 1) * 4) hk (omega arith) hs) ∙ strict-append (take (i * 4) s) group groups ∙ rw (← d .answer)
+      let groups : length (take (i * 8) s) % 4 ≡ 0 = omega (arith, length-take-le (i * 8) s (omega arith)) in
+      rw (end, take-add (i * 8) k s) (strict-append (take (i * 8) s) next groups ∙ rw (← d .answer))
 
-  pub one-more : {ok : Bool} {x y z : ℕ} → i * 3 + 3 ≤ length out₀ → ok ≡ true → Grouped (getD next 0 0) (getD next 1 0) (getD next 2 0) (getD next 3 0) ok x y z
-      → Decodes (take ((i + 1) * 4) s) out₀ true (set (set (set out (i * 3) x) (i * 3 + 1) y) (i * 3 + 2) z)
-  unfolding entries
-  one-more {ok} {x} {y} {z} h e g =
+  pub one-more : {ok : Bool} {x y z u v w : ℕ} → i * 6 + 6 ≤ length out₀ → ok ≡ true → Grouped next ok (x ∷ y ∷ z ∷ u ∷ v ∷ w ∷ [])
+      → Decodes (take ((i + 1) * 8) s) out₀ true (set (set (set (set (set (set out (i * 6) x) (i * 6 + 1) y) (i * 6 + 2) z) (i * 6 + 3) u) (i * 6 + 4) v) (i * 6 + 5) w)
+  one-more {ok} {x} {y} {z} {u} {v} {w} h e g =
       record {
         answer = sym e ∙ g .answer ∙ sym strict-next;
         bytes =
-            λ _. three-stores out (i * 3) x y z
-            ∙ group-more decode-grouping s out₀ (i * 4) (i * 3) (omega arith) (omega arith) (omega arith) k ((i + 1) * 4) hk (omega arith) hs h (d .bytes refl) (g .bytes e);
+            λ _. six-stores out (i * 6) x y z u v w
+            ∙ part-more decode-grouping s out₀ (i * 8) (i * 6) (omega arith) (omega arith) (omega arith) k ((i + 1) * 8) end h (d .bytes refl) (g .bytes e);
       }
 
-  pub refused : {ok : Bool} {x y z : ℕ} → ok ≡ false → Grouped (getD next 0 0) (getD next 1 0) (getD next 2 0) (getD next 3 0) ok x y z → Decodes s out₀ false out
-  refused e g = not-strict (front-refused s ((i + 1) * 4) (omega arith) (omega arith) (strict-next ∙ sym (g .answer) ∙ e))
+  pub refused : {ok : Bool} {vs : List ℕ} → ok ≡ false → Grouped next ok vs → Decodes s out₀ false out
+  refused e g = not-strict (front-refused s ((i + 1) * 8) (omega arith) (omega arith) (strict-next ∙ sym (g .answer) ∙ e))
 
--- the groups, and then the rest
-pub whole : (s out₀ out₁ out₂ : List ℕ) {ok r : Bool} → ok ≡ true
-    → Decodes (take (length s / 4 * 4) s) out₀ ok out₁
-    → Decodes (take (length s - length s / 4 * 4) (drop (length s / 4 * 4) s)) (take (length out₁ - length s / 4 * 3) (drop (length s / 4 * 3) out₁)) r out₂
-    → Decodes s out₀ r (putMid (length s / 4 * 3) (length out₁ - length s / 4 * 3) out₁ out₂)
-whole s out₀ out₁ out₂ t d e =
-    let n = length s / 4 * 4 in
+-- one group alone
+module _ (s out : List ℕ) (h : length s ≡ 4) {ok : Bool} {vs : List ℕ} (g : Grouped (entries (λ i. getD s i 0) 0 4) ok vs) where
+  group-answer : ok ≡ strict s
+  group-answer = g .answer ∙ ap strict (as-entries s 4 h)
+
+  pub alone : {new : List ℕ} → length vs ≤ length out → (ok ≡ true → new ≡ sets out 0 vs) → Decodes s out ok new
+  unfolding decode
+  alone k stored =
+      record {
+        answer = group-answer;
+        bytes = λ e. let bytes : decode s ≡ vs = ap decode (sym (as-entries s 4 h)) ∙ g .bytes e in stored e ∙ rw bytes (laid-stores [] out 0 refl vs (omega arith));
+      }
+
+-- the first n characters, whole groups, and then the rest
+pub whole : (s out₀ out₁ out₂ : List ℕ) (n m : ℕ) {ok r : Bool} → n % 4 ≡ 0 → n ≤ length s → n / 4 * 3 ≡ m → ok ≡ true
+    → Decodes (take n s) out₀ ok out₁
+    → Decodes (take (length s - n) (drop n s)) (take (length out₁ - m) (drop m out₁)) r out₂
+    → Decodes s out₀ r (putMid m (length out₁ - m) out₁ out₂)
+whole s out₀ out₁ out₂ n m groups h place t d e =
     record {
-      answer = e .answer ∙ ap strict (part-from n s) ∙ sym (strict-split s n (omega arith) (omega arith) ∙ rw (← d .answer, t));
-      bytes = λ u. then-rest decode-grouping s out₀ n (length s / 4 * 3) (omega arith) (omega arith) (omega arith) out₁ out₂ (d .bytes t) (e .bytes u);
+      answer = e .answer ∙ ap strict (part-from n s) ∙ sym (strict-split s n groups h ∙ rw (← d .answer, t));
+      bytes = λ u. then-rest decode-grouping s out₀ n m groups place h out₁ out₂ (d .bytes t) (e .bytes u);
     }

@@ -2,4 +2,3 @@
 pub mod RefusalLaws
 pub mod DecodeLaws
 pub mod RestLaws
-pub mod GroupTest

@@ -14,7 +14,8 @@ use Rattle.base64url_rules.specs.Alphabet.{value, inAlphabet}
 use Rattle.base64url_rules.specs.Base64url.{decode, alphabetic, unusedBits, strict, byte1, byte2, byte3}
 use Rattle.base64url_rules.specs.Listed.{as-entries}
 use Rattle.base64url_rules.specs.Tables.{entries}
-use Rattle.base64url_decoding.specs.Writing.{Decodes, Grouped}
+use Rattle.base64url_words.specs.Words.{Grouped}
+use Rattle.base64url_decoding.specs.Writing.{Decodes}
 use Rattle.base64url_decoding.proofs.DecodeLaws.{not-strict}
 
 -- a text of n characters, by these one by one
@@ -52,7 +53,7 @@ unfolding strict
 alone a out = not-strict (and-false (alphabetic (a ∷ [])))
 
 -- two characters, by what their group says
-module _ (a b x y z : ℕ) (ok : Bool) (out : List ℕ) (g : Grouped a b 65 65 ok x y z) where
+module _ (a b x y z : ℕ) (ok : Bool) (out : List ℕ) (g : Grouped (a ∷ b ∷ 65 ∷ 65 ∷ []) ok (x ∷ y ∷ z ∷ [])) where
   two-judged : strict (a ∷ b ∷ []) ≡ ok && eqb y 0
   unfolding decode
   two-judged = two-test a b ∙ rw (← g .answer) (when ok (byte2 b 65) y (λ e. cc (g .bytes e)))
@@ -67,7 +68,7 @@ module _ (a b x y z : ℕ) (ok : Bool) (out : List ℕ) (g : Grouped a b 65 65 o
       record { answer = sym (two-judged ∙ rw (e, f)); bytes = λ _. rw byte (laid-stores [] out 0 refl (x ∷ []) h) }
 
 -- three characters
-module _ (a b c x y z : ℕ) (ok : Bool) (out : List ℕ) (g : Grouped a b c 65 ok x y z) where
+module _ (a b c x y z : ℕ) (ok : Bool) (out : List ℕ) (g : Grouped (a ∷ b ∷ c ∷ 65 ∷ []) ok (x ∷ y ∷ z ∷ [])) where
   three-judged : strict (a ∷ b ∷ c ∷ []) ≡ ok && eqb z 0
   unfolding decode
   three-judged = three-test a b c ∙ rw (← g .answer) (when ok (byte3 c 65) z (λ e. cc (g .bytes e)))

@@ -1,7 +1,7 @@
 -- What the parts of the code that write say of a text, the buffer before and after, and their answer.
 use mathlib.Core.Path.{_≡_}
 use mathlib.Core.Bool.{Bool, true}
-use mathlib.Core.List.{List, [], _∷_}
+use mathlib.Core.List.{List}
 use Prim.Native.Nat.{ℕ}
 use Rattle.base64url_rules.specs.Base64url.{strict, decode}
 use Rattle.common.specs.Buffer.{laid}
@@ -9,8 +9,3 @@ use Rattle.common.specs.Buffer.{laid}
 pub record Decodes (text out₀ : List ℕ) (ok : Bool) (out : List ℕ) : Type 0 where
   pub answer : ok ≡ strict text
   pub bytes : ok ≡ true → out ≡ laid (decode text) out₀
-
--- four characters, whether all are of the alphabet, and if so their bytes
-pub record Grouped (a b c d : ℕ) (ok : Bool) (x y z : ℕ) : Type 0 where
-  pub answer : ok ≡ strict (a ∷ b ∷ c ∷ d ∷ [])
-  pub bytes : ok ≡ true → decode (a ∷ b ∷ c ∷ d ∷ []) ≡ x ∷ y ∷ z ∷ []

@@ -5,11 +5,11 @@ ghost use Rattle.base64url_rules.specs.Fault.{fault, firstOutside};
 ghost use Rattle.base64url_rules.specs.Outcome.{refusal};
 ghost use Rattle.base64url_rules.specs.Tables.{values};
 use crate::Decoded;
-use crate::values::value_of;
+use base64url_words::value_of;
 
 // The place of the first character outside the alphabet, or the text's length. Rules out _ counted as outside, and the text's end
 // where = stands.
-pub fn first_outside(table: &[u8; 256], text: &[u8]) -> usize
+pub fn first_outside(table: &[i8; 256], text: &[u8]) -> usize
     requires { ⌜ now table ≡ values ⌝ }
     ensures { λ r. ⌜ r ≡ firstOutside (now (text .entry)) ⌝ }
 {
@@ -24,7 +24,7 @@ pub fn first_outside(table: &[u8; 256], text: &[u8]) -> usize
 }
 
 // The bits of the last character that belong to no byte.
-fn unused_bits(table: &[u8; 256], text: &[u8]) -> u8
+fn unused_bits(table: &[i8; 256], text: &[u8]) -> u8
     requires { ⌜ now table ≡ values ⌝ }
     ensures { λ r. ⌜ r ≡ unusedBits (now (text .entry)) ⌝ }
 {
@@ -37,7 +37,7 @@ fn unused_bits(table: &[u8; 256], text: &[u8]) -> u8
 }
 
 // The answer to a text that is not decoded: its fault, or that the buffer is too short.
-pub(crate) fn refuse(table: &[u8; 256], text: &[u8]) -> Decoded
+pub(crate) fn refuse(table: &[i8; 256], text: &[u8]) -> Decoded
     requires { ⌜ now table ≡ values ⌝ }
     ensures { λ r. ⌜ r ≡ refusal (fault (now (text .entry))) ⌝ }
 {

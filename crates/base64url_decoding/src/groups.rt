@@ -4,61 +4,36 @@ ghost use Prim.Native.Nat.{_<_, _≤_, _%_};
 ghost use lib.ListN.{length};
 ghost use Rattle.base64url_rules.specs.Base64url.{decodedLength};
 ghost use Rattle.base64url_rules.specs.Tables.{values};
-ghost use Rattle.base64url_decoding.specs.Writing.{Decodes, Grouped};
-use crate::values::value_of;
+ghost use Rattle.base64url_words.specs.Words.{WideIfAny};
+ghost use Rattle.base64url_decoding.specs.Writing.{Decodes};
+use base64url_words::decode_group;
+use base64url_words::widened;
+use base64url_words::words_of;
 
-// Four characters: whether all are of the alphabet, and if so their three bytes.
-pub(crate) struct Group {
-    pub(crate) ok: bool,
-    pub(crate) x: u8,
-    pub(crate) y: u8,
-    pub(crate) z: u8,
-}
+// From this length on a text is decoded by the table for long texts. On x86-64 that pays from some 400 characters on. On small processors it gains
+// nothing and takes some thousand instructions to make, so that it is left to texts that nodes seldom get.
+const LONG: usize = 4096;
 
-// One test serves all four values: their bitwise or is below 64 only if each is.
-fn decode_group(table: &[u8; 256], a: u8, b: u8, c: u8, d: u8) -> Group
-    requires { ⌜ now table ≡ values ⌝ }
-    ensures { λ r. ⌜ Grouped a b c d (r .ok) (r .x) (r .y) (r .z) ⌝ }
-{
-    let va = value_of(table, a);
-    let vb = value_of(table, b);
-    let vc = value_of(table, c);
-    let vd = value_of(table, d);
-    if (va | vb | vc | vd) < 64 {
-        Group {
-            ok: true,
-            x: va * 4 + vb / 16,
-            y: vb % 16 * 16 + vc / 4,
-            z: vc % 4 * 64 + vd,
-        }
-    } else {
-        Group {
-            ok: false,
-            x: 0,
-            y: 0,
-            z: 0,
-        }
-    }
-}
-
-// Decodes whole groups of four characters.
-fn decode_groups(table: &[u8; 256], text: &[u8], out: &mut [u8]) -> bool
-    requires { ⌜ (now table ≡ values) × (length (now text) % 4 ≡ 0) × (decodedLength (length (now text)) ≤ length (now out)) ⌝ }
+// Decodes pairs of groups, eight characters each.
+fn decode_pairs(table: &[i8; 256], long: &[i32], text: &[u8], out: &mut [u8]) -> bool
+    requires { ⌜ (now table ≡ values) × WideIfAny (now long) × (length (now text) % 8 ≡ 0) × (decodedLength (length (now text)) ≤ length (now out)) ⌝ }
     ensures { λ r. ⌜ Decodes (now (text .entry)) (now (out .entry)) r (now (out .exit)) ⌝ }
 {
-    let n = text.len() / 4;
+    let n = text.len() / 8;
     let mut i: usize = 0;
     while i < n {
-        let from = i * 4;
-        let s = &text[from..from + 4];
-        let g = decode_group(table, s[0], s[1], s[2], s[3]);
-        if !g.ok {
+        let from = i * 8;
+        let w = words_of(table, long, &text[from..from + 8]);
+        if !w.ok {
             return false;
         }
-        let to = i * 3;
-        out[to] = g.x;
-        out[to + 1] = g.y;
-        out[to + 2] = g.z;
+        let to = i * 6;
+        out[to] = (w.x / 65536 % 256) as u8;
+        out[to + 1] = (w.x / 256 % 256) as u8;
+        out[to + 2] = (w.x % 256) as u8;
+        out[to + 3] = (w.y / 65536 % 256) as u8;
+        out[to + 4] = (w.y / 256 % 256) as u8;
+        out[to + 5] = (w.y % 256) as u8;
         i += 1;
     }
     true
@@ -66,7 +41,7 @@ fn decode_groups(table: &[u8; 256], text: &[u8], out: &mut [u8]) -> bool
 
 // Decodes a rest of at most three characters. It is filled up with A, whose value is 0: the unused bits are then the byte after
 // the last one.
-fn decode_rest(table: &[u8; 256], text: &[u8], out: &mut [u8]) -> bool
+fn decode_rest(table: &[i8; 256], text: &[u8], out: &mut [u8]) -> bool
     requires { ⌜ (now table ≡ values) × (length (now text) < 4) × (decodedLength (length (now text)) ≤ length (now out)) ⌝ }
     ensures { λ r. ⌜ Decodes (now (text .entry)) (now (out .entry)) r (now (out .exit)) ⌝ }
 {
@@ -94,14 +69,54 @@ fn decode_rest(table: &[u8; 256], text: &[u8], out: &mut [u8]) -> bool
     false
 }
 
+// Decodes one group.
+fn decode_four(table: &[i8; 256], text: &[u8], out: &mut [u8]) -> bool
+    requires { ⌜ (now table ≡ values) × (length (now text) ≡ 4) × (3 ≤ length (now out)) ⌝ }
+    ensures { λ r. ⌜ Decodes (now (text .entry)) (now (out .entry)) r (now (out .exit)) ⌝ }
+{
+    let g = decode_group(table, text[0], text[1], text[2], text[3]);
+    if g.ok {
+        out[0] = g.x;
+        out[1] = g.y;
+        out[2] = g.z;
+    }
+    g.ok
+}
+
+// Decodes what pairs leave: at most seven characters, a group and a rest.
+fn decode_last(table: &[i8; 256], text: &[u8], out: &mut [u8]) -> bool
+    requires { ⌜ (now table ≡ values) × (length (now text) < 8) × (decodedLength (length (now text)) ≤ length (now out)) ⌝ }
+    ensures { λ r. ⌜ Decodes (now (text .entry)) (now (out .entry)) r (now (out .exit)) ⌝ }
+{
+    if text.len() < 4 {
+        return decode_rest(table, text, out);
+    }
+    if !decode_four(table, &text[..4], out) {
+        return false;
+    }
+    decode_rest(table, &text[4..], &mut out[3..])
+}
+
+// The pairs, and then what they leave.
+fn decode_all(table: &[i8; 256], long: &[i32], text: &[u8], out: &mut [u8]) -> bool
+    requires { ⌜ (now table ≡ values) × WideIfAny (now long) × (decodedLength (length (now text)) ≤ length (now out)) ⌝ }
+    ensures { λ r. ⌜ Decodes (now (text .entry)) (now (out .entry)) r (now (out .exit)) ⌝ }
+{
+    let n = text.len() / 8;
+    if !decode_pairs(table, long, &text[..n * 8], out) {
+        return false;
+    }
+    decode_last(table, &text[n * 8..], &mut out[n * 6..])
+}
+
 // Whether the text is strict; if so, its bytes are at the front of the buffer.
-pub(crate) fn decode_into(table: &[u8; 256], text: &[u8], out: &mut [u8]) -> bool
+pub(crate) fn decode_into(table: &[i8; 256], text: &[u8], out: &mut [u8]) -> bool
     requires { ⌜ (now table ≡ values) × (decodedLength (length (now text)) ≤ length (now out)) ⌝ }
     ensures { λ r. ⌜ Decodes (now (text .entry)) (now (out .entry)) r (now (out .exit)) ⌝ }
 {
-    let n = text.len() / 4;
-    if !decode_groups(table, &text[..n * 4], out) {
-        return false;
+    if text.len() < LONG {
+        return decode_all(table, &[], text, out);
     }
-    decode_rest(table, &text[n * 4..], &mut out[n * 3..])
+    let long = widened(table);
+    decode_all(table, &long, text, out)
 }

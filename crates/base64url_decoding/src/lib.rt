@@ -6,14 +6,11 @@ ghost use Rattle.base64url_rules.specs.Base64url.{decodedLength};
 ghost use Rattle.base64url_rules.specs.Outcome.{decodedTo, decoding};
 ghost use Rattle.base64url_rules.specs.Tables.{values};
 
-mod values; // values.rt: the values of the characters
 mod groups; // groups.rt: a text into a buffer that has room for its bytes
 mod fault; // fault.rt: why a text is refused
 
 pub use base64url_rules::Decoded;
 pub use fault::first_outside;
-pub use values::table;
-pub use values::value_of;
 
 // How many bytes a text of this length stands for. Rules out four bytes for a group, and a byte more for a rest.
 pub fn decoded_len(text: &[u8]) -> usize
@@ -33,12 +30,12 @@ pub fn decoded_len(text: &[u8]) -> usize
 pub fn decode(text: &[u8], out: &mut [u8]) -> Decoded
     ensures { λ r. ⌜ decodedTo r (now (out .exit)) ≡ decoding (now (text .entry)) (now (out .entry)) ⌝ }
 {
-    decode_with(&table(), text, out)
+    decode_with(&base64url_words::table(), text, out)
 }
 
 // The same, with a table that the caller has made once. Rules out a character outside the
 // alphabet reported at the text's end, and Short where the text has a fault.
-pub fn decode_with(table: &[u8; 256], text: &[u8], out: &mut [u8]) -> Decoded
+pub fn decode_with(table: &[i8; 256], text: &[u8], out: &mut [u8]) -> Decoded
     requires { ⌜ now table ≡ values ⌝ }
     ensures { λ r. ⌜ decodedTo r (now (out .exit)) ≡ decoding (now (text .entry)) (now (out .entry)) ⌝ }
 {

@@ -1,5 +1,5 @@
 -- A function on groups, n numbers to m, that is computed group after group into a buffer, and then a rest. One law serves decoding and encoding.
-use mathlib.Core.Path.{_≡_, ap, _∙_}
+use mathlib.Core.Path.{_≡_, ap, sym, _∙_}
 use mathlib.Core.List.{List, _++_}
 use Prim.Native.Nat.{ℕ, _+_, _-_, _*_, _/_, _%_, _≤_}
 use native.Mathlib.Omega.{arith}
@@ -29,12 +29,6 @@ encode-grouping = record { append = encode-append; size = λ s h. omega (arith, 
 abbrev pub groupAt : List ℕ → ℕ → ℕ → ℕ → List ℕ
 groupAt s a k n = entries (λ i. getD (take k (drop a s)) i 0) 0 n
 
-pub taken-more : (s : List ℕ) (a k n end : ℕ) → k ≡ n → end ≡ a + n → a + n ≤ length s → take end s ≡ take a s ++ groupAt s a k n
-taken-more s a k n end e f h =
-    let size : length (take k (drop a s)) ≡ n = length-take-le k (drop a s) (rw (length-drop a s) (omega arith)) ∙ e in
-    let to : end ≡ a + k = omega arith in
-    rw (to, as-entries (take k (drop a s)) n size) (take-add a k s)
-
 -- what f gives for the first a numbers, whole groups of n, stands at the front of the buffer, b numbers
 module _ {f : List ℕ → List ℕ} {n m : ℕ} (g : Grouping f n m) (s out₀ : List ℕ) (a b : ℕ) (groups : a % n ≡ 0) (place : a / n * m ≡ b) (within : a ≤ length s) where
   front : length (take a s) ≡ a
@@ -46,10 +40,17 @@ module _ {f : List ℕ → List ℕ} {n m : ℕ} (g : Grouping f n m) (s out₀ 
   size : length (f (take a s)) ≡ b
   size = g .size (take a s) (rw front groups) ∙ rw front place
 
-  -- a group more, stored behind
+  -- a part more, stored behind
+  pub part-more : (k end : ℕ) {out vs : List ℕ} → end ≡ a + k → b + length vs ≤ length out₀ → out ≡ laid (f (take a s)) out₀ → f (take k (drop a s)) ≡ vs
+      → sets out b vs ≡ laid (f (take end s)) out₀
+  part-more k end {out} {vs} d room w v = rw (d, take-add a k s) (grown f (take a s) (take k (drop a s)) out₀ b (split _) size out vs w v room)
+
+  -- a group more, number by number
   pub group-more : (k end : ℕ) {out vs : List ℕ} → k ≡ n → end ≡ a + n → a + n ≤ length s → b + length vs ≤ length out₀
       → out ≡ laid (f (take a s)) out₀ → f (groupAt s a k n) ≡ vs → sets out b vs ≡ laid (f (take end s)) out₀
-  group-more k end {out} {vs} e d h room w v = rw (taken-more s a k n end e d h) (grown f (take a s) (groupAt s a k n) out₀ b (split _) size out vs w v room)
+  group-more k end e d h room w v =
+      let long : length (take k (drop a s)) ≡ n = length-take-le k (drop a s) (rw (length-drop a s) (omega arith)) ∙ e in
+      part-more k end (omega arith) room w (ap f (sym (as-entries (take k (drop a s)) n long)) ∙ v)
 
   -- the rest, written into the part behind
   pub then-rest : (out₁ out₂ : List ℕ) → out₁ ≡ laid (f (take a s)) out₀ → out₂ ≡ laid (f (take (length s - a) (drop a s))) (take (length out₁ - b) (drop b out₁))

@@ -7,7 +7,7 @@ use lib.ListN.{length, getD}
 use lib.Seq.{ext-getD}
 use Rattle.base64url_rules.specs.Tables.{entries, entry}
 
-length-entries : (f : ℕ → ℕ) (i n : ℕ) → length (entries f i n) ≡ n
+pub length-entries : {A : Type 0} (f : ℕ → A) (i n : ℕ) → length (entries f i n) ≡ n
 unfolding entries
 length-entries f i zero = refl
 length-entries f i (suc n) = ap suc (length-entries f (suc i) n)
@@ -17,4 +17,4 @@ pub as-entries : (s : List ℕ) (n : ℕ) → length s ≡ n → entries (λ i. 
 as-entries s n h =
     let f : ℕ → ℕ = λ i. getD s i 0 in
     let e = length-entries f 0 n in
-    ext-getD 0 (entries f 0 n) s (e ∙ sym h) (λ i k. entry f n i (omega arith))
+    ext-getD 0 (entries f 0 n) s (e ∙ sym h) (λ i k. entry 0 f n i (omega arith))

@@ -22,6 +22,13 @@ four-stores l n a b c d =
     let e : n + 3 ≡ suc (suc (suc n)) = omega arith in
     rw e (ap (λ (k : List ℕ). set k (suc (suc (suc n))) d) (three-stores l n a b c))
 
+pub six-stores : (l : List ℕ) (n a b c d e f : ℕ)
+    → set (set (set (set (set (set l n a) (n + 1) b) (n + 2) c) (n + 3) d) (n + 4) e) (n + 5) f ≡ sets l n (a ∷ b ∷ c ∷ d ∷ e ∷ f ∷ [])
+six-stores l n a b c d e f =
+    let e4 : n + 4 ≡ suc (suc (suc (suc n))) = omega arith in
+    let e5 : n + 5 ≡ suc (suc (suc (suc (suc n)))) = omega arith in
+    rw (e4, e5) (ap (λ (k : List ℕ). set (set k (suc (suc (suc (suc n)))) e) (suc (suc (suc (suc (suc n))))) f) (four-stores l n a b c d))
+
 -- THE PART FROM A PLACE ON
 
 -- as the code lends it; and the list with another part in its place

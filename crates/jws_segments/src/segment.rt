@@ -13,7 +13,7 @@ pub struct Segment {
 }
 
 // Decodes a segment into a buffer. If it is strict, and the buffer has room, its bytes are at the buffer's front.
-pub(crate) fn decode_segment(table: &[u8; 256], text: &[u8], out: &mut [u8]) -> Segment
+pub(crate) fn decode_segment(table: &[i8; 256], text: &[u8], out: &mut [u8]) -> Segment
     requires { ⌜ now table ≡ values ⌝ }
     ensures { λ r. ⌜ (r ≡ segmentOf (now (text .entry))) × (now (out .exit) ≡ decodedOut (now (text .entry)) (now (out .entry))) ⌝ }
 {

@@ -13,7 +13,7 @@ pub struct Signature {
 }
 
 // The signature in a segment.
-pub(crate) fn signature_in(table: &[u8; 256], text: &[u8]) -> Signature
+pub(crate) fn signature_in(table: &[i8; 256], text: &[u8]) -> Signature
     requires { ⌜ now table ≡ values ⌝ }
     ensures { λ r. ⌜ r ≡ signatureIn (now (text .entry)) ⌝ }
 {

@@ -2,12 +2,12 @@
 use mathlib.Core.Path.{refl}
 use Rattle.common.specs.Ranges.{within}
 use Rattle.base64url_rules.specs.Alphabet.{value}
-use Rattle.base64url_rules.specs.Tables.{entries, values}
-use Rattle.base64url_decoding.proofs.values.table.Statement.{statement}
-use Rattle.base64url_decoding.proofs.values.table.Tie as tie
+use Rattle.base64url_rules.specs.Tables.{entries, signed, values}
+use Rattle.base64url_words.proofs.values.table.Statement.{statement}
+use Rattle.base64url_words.proofs.values.table.Tie as tie
 
 returns : tie.Need-returns
-unfolding values entries within value
+unfolding values entries within value signed
 returns c = refl
 
 pub table-spec : {M : Type 1} → statement M
