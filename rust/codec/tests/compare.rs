@@ -1,8 +1,8 @@
-//! The proved codecs against the reference on generated input, good and damaged.
+//! The proved encoder, SHA-256 and HMAC against the reference on generated input; `decoding.rs` has the decoder.
 
 use case_generator::rng::Rng;
 use codec::Answer;
-use reference::base64url::{self, DecodeError};
+use reference::base64url;
 
 const CASES: usize = 20_000;
 
@@ -15,36 +15,6 @@ fn room(rng: &mut Rng, needed: usize) -> Vec<u8> {
         _ => needed,
     };
     vec![0xA5; length]
-}
-
-#[test]
-fn decoding_agrees() {
-    let mut seen = [0; 3];
-    for (case, text) in case_generator::base64url_texts(1).take(CASES).enumerate() {
-        let mut rng = Rng::of_case(2, case as u64);
-        let mut ours = room(&mut rng, base64url::decoded_len(text.len()));
-        let garbage = ours.clone();
-        let answer = codec::decode(&text, &mut ours);
-        match base64url::decode(&text) {
-            Err(fault) => {
-                assert_eq!(answer, Answer::Fault(fault.place), "{text:?}");
-                assert!(ours.iter().all(|b| *b == 0));
-                seen[0] += 1;
-            }
-            Ok(bytes) if bytes.len() > ours.len() => {
-                assert_eq!(answer, Answer::Short, "{text:?}");
-                assert!(ours.iter().all(|b| *b == 0));
-                seen[1] += 1;
-            }
-            Ok(bytes) => {
-                assert_eq!(answer, Answer::Written(bytes.len()), "{text:?}");
-                assert_eq!(ours[..bytes.len()], bytes[..]);
-                assert_eq!(ours[bytes.len()..], garbage[bytes.len()..]);
-                seen[2] += 1;
-            }
-        }
-    }
-    assert!(seen.iter().all(|n| *n > CASES / 50), "{seen:?}");
 }
 
 #[test]
@@ -101,18 +71,5 @@ fn macs_agree() {
             reference::hmac::hmac_sha256(&key, b"message"),
             "{length}"
         );
-    }
-}
-
-#[test]
-fn reference_names_the_same_faults() {
-    // The two ways of the reference agree, so that either may stand for it above.
-    for text in case_generator::base64url_texts(8).take(CASES) {
-        let mut out = vec![0; base64url::decoded_len(text.len())];
-        match (base64url::decode(&text), base64url::decode_into(&text, &mut out)) {
-            (Ok(bytes), Ok(n)) => assert_eq!(bytes, out[..n]),
-            (Err(a), Err(DecodeError::Fault(b))) => assert_eq!(a, b),
-            (a, b) => panic!("{a:?} {b:?}"),
-        }
     }
 }
