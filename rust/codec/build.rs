@@ -5,8 +5,5 @@ mod archive;
 
 fn main() {
     let archive = archive::archive("codec_ffi", &["libcodec_ffi.a"], "CODEC_ARCHIVE_DIR");
-    if let Some(folder) = archive.parent() {
-        println!("cargo:rustc-link-search=native={}", folder.display());
-    }
-    println!("cargo:rustc-link-lib=static=codec_ffi");
+    archive::link(&archive, "codec_ffi");
 }

@@ -1,8 +1,8 @@
-//! Where a build script finds an archive that `rt staticlib` writes.
+//! Where a build script finds an archive that `rt staticlib` writes, and how it links it.
 
-use std::env;
 use std::path::{Path, PathBuf};
-use std::process::exit;
+use std::process::{exit, Command};
+use std::{env, fs};
 
 /// The archive of a crate: the first of these files in the folder that `variable` names, or else in `target/staticlib` of the repository.
 /// Where none is there, the build ends with a message that says what to do.
@@ -16,6 +16,29 @@ pub fn archive(name: &str, files: &[&str], variable: &str) -> PathBuf {
     println!("cargo:rerun-if-env-changed={variable}");
     println!("cargo:rerun-if-changed={}", archive.display());
     archive
+}
+
+/// Links a copy of an archive under a name. Where binutils are at hand, each of its functions begins at a multiple of 64 bytes: then a
+/// loop's time doesn't hang on what else stands in the program.
+pub fn link(archive: &Path, name: &str) {
+    let tool = Path::new(env!("CARGO_MANIFEST_DIR")).join("../tools/aligned_archive.sh");
+    let out = out_folder();
+    let linked = out.join(format!("lib{name}.a"));
+
+    let aligned = Command::new(&tool).arg(archive).arg(&linked).status();
+    if !aligned.is_ok_and(|status| status.success()) {
+        if let Err(error) = fs::copy(archive, &linked) {
+            end(&format!("{} can't be copied: {error}", archive.display()));
+        }
+    }
+    println!("cargo:rustc-link-search=native={}", out.display());
+    println!("cargo:rustc-link-lib=static={name}");
+    println!("cargo:rerun-if-changed={}", tool.display());
+}
+
+/// The folder for what a build script writes.
+pub fn out_folder() -> PathBuf {
+    PathBuf::from(env::var_os("OUT_DIR").expect("cargo sets OUT_DIR"))
 }
 
 /// Ends the build with a message and nothing more.
