@@ -11,6 +11,11 @@ mod ffi {
         pub fn codec_sha256(message: *const u8, message_len: usize, digest: *mut [u8; 32]);
         pub fn codec_hmac(key: *const u8, key_len: usize, message: *const u8, message_len: usize, mac: *mut [u8; 32]);
     }
+    #[cfg(codec_before)]
+    extern "C" {
+        pub fn before_decode(text: *const u8, text_len: usize, out: *mut u8, out_len: usize, answer: *mut [u64; 2]);
+        pub fn before_encode(bytes: *const u8, bytes_len: usize, out: *mut u8, out_len: usize, answer: *mut [u64; 2]);
+    }
 }
 
 /// What decoding or encoding answers.
@@ -24,7 +29,16 @@ pub enum Answer {
     Short,
 }
 
-fn answer(words: [u64; 2]) -> Answer {
+/// A decoder or an encoder.
+type Coder = unsafe extern "C" fn(*const u8, usize, *mut u8, usize, *mut [u64; 2]);
+
+/// # Safety
+///
+/// It is a decoder or an encoder of an archive.
+unsafe fn call(coder: Coder, input: &[u8], out: &mut [u8]) -> Answer {
+    let mut words = [9; 2];
+    // SAFETY: each pointer goes with the length of its own slice, and `words` is two words.
+    unsafe { coder(input.as_ptr(), input.len(), out.as_mut_ptr(), out.len(), &mut words) };
     match words[0] {
         0 => Answer::Written(words[1] as usize),
         1 => Answer::Fault(words[1] as usize),
@@ -34,18 +48,14 @@ fn answer(words: [u64; 2]) -> Answer {
 
 /// Decodes strict base64url into `out`.
 pub fn decode(text: &[u8], out: &mut [u8]) -> Answer {
-    let mut words = [9; 2];
-    // SAFETY: each pointer goes with the length of its own slice, and `words` is two words.
-    unsafe { ffi::codec_decode(text.as_ptr(), text.len(), out.as_mut_ptr(), out.len(), &mut words) };
-    answer(words)
+    // SAFETY: it is the archive's decoder.
+    unsafe { call(ffi::codec_decode, text, out) }
 }
 
 /// Encodes bytes as base64url into `out`.
 pub fn encode(bytes: &[u8], out: &mut [u8]) -> Answer {
-    let mut words = [9; 2];
-    // SAFETY: as in `decode`.
-    unsafe { ffi::codec_encode(bytes.as_ptr(), bytes.len(), out.as_mut_ptr(), out.len(), &mut words) };
-    answer(words)
+    // SAFETY: it is the archive's encoder.
+    unsafe { call(ffi::codec_encode, bytes, out) }
 }
 
 /// The SHA-256 digest of a message.
@@ -62,4 +72,22 @@ pub fn hmac_sha256(key: &[u8], message: &[u8]) -> [u8; 32] {
     // SAFETY: each pointer goes with the length of its own slice, and `mac` is 32 bytes.
     unsafe { ffi::codec_hmac(key.as_ptr(), key.len(), message.as_ptr(), message.len(), &mut mac) };
     mac
+}
+
+/// The same by an earlier archive, where the build was given one in `CODEC_BEFORE`.
+#[cfg(codec_before)]
+pub mod before {
+    use super::{call, ffi, Answer};
+
+    /// Decodes strict base64url into `out`.
+    pub fn decode(text: &[u8], out: &mut [u8]) -> Answer {
+        // SAFETY: it is the earlier archive's decoder.
+        unsafe { call(ffi::before_decode, text, out) }
+    }
+
+    /// Encodes bytes as base64url into `out`.
+    pub fn encode(bytes: &[u8], out: &mut [u8]) -> Answer {
+        // SAFETY: it is the earlier archive's encoder.
+        unsafe { call(ffi::before_encode, bytes, out) }
+    }
 }
