@@ -2,7 +2,7 @@
 use mathlib.Core.Path.{_≡_, ap, sym, _∙_}
 use mathlib.Core.Bool.{cond}
 use mathlib.Core.List.{List, [], _∷_}
-use Prim.Native.Nat.{ℕ, zero, suc, _+_, _<_}
+use Prim.Native.Nat.{ℕ, zero, suc, _+_, _%_, _<_}
 use native.Mathlib.Nat.{add-zero, zero-add, add-suc, suc-add, le-of-suc-le-suc, not-suc-le-zero}
 use lib.IntN.{ℤ, pos, negsuc}
 use lib.ListN.{getD}
@@ -13,9 +13,9 @@ unfoldable pub entries : {A : Type 0} → (ℕ → A) → ℕ → ℕ → List A
 entries f i zero = []
 entries f i (suc n) = f i ∷ entries f (suc i) n
 
--- the value of a character, and -1 outside the alphabet: the sign tells which
+-- the value of a character; outside the alphabet a number below 0, -1 and -2 in turn
 unfoldable pub signed : ℕ → ℤ
-signed c = cond (inAlphabet c) (pos (value c)) (negsuc 0)
+signed c = cond (inAlphabet c) (pos (value c)) (negsuc (c % 2))
 
 unfoldable pub values : List ℤ
 values = entries signed 0 256

@@ -1,10 +1,11 @@
 -- Numbers with a sign: the value of a character fits 8 and 32 bits, and what the sign of a value, and of 32 bits, tells.
-use mathlib.Core.Path.{_≡_, refl, sym, _∙_}
+use mathlib.Core.Path.{_≡_, refl, ap, sym, _∙_}
+use mathlib.Core.Logic.{_⊎_, inl, inr}
 use mathlib.Core.Bool.{Bool, true, false, cond, not, false≢true}
-use Prim.Native.Nat.{ℕ, _<_, zero-le}
+use Prim.Native.Nat.{ℕ, zero, suc, _%_, _<_, zero-le}
 use native.Mathlib.Omega.{arith}
 use lib.Dec.{ltb}
-use lib.IntN.{pos}
+use lib.IntN.{pos, negsuc}
 use lib.Signed.{mag, ltZ}
 use borrow.Author.Tests.{ltb-true, le-ltb}
 use mir.Syntax.{w8, w32}
@@ -13,6 +14,19 @@ use mir.ValLaws.{toZ-ofZ, toZ-pos}
 use Rattle.common.specs.Ranges.{within}
 use Rattle.base64url_rules.specs.Alphabet.{value, inAlphabet}
 use Rattle.base64url_rules.specs.Tables.{entries, agree, signed}
+
+-- the bits of -1 and of -2
+pub outside-bits : (c : ℕ) → inAlphabet c ≡ false → (ofZ w32 (signed c) ≡ 4294967295) ⊎ (ofZ w32 (signed c) ≡ 4294967294)
+unfolding signed
+outside-bits c o = go (c % 2) refl (omega arith)
+  where
+    is : signed c ≡ negsuc (c % 2)
+    is = rw o
+
+    go : (n : ℕ) → c % 2 ≡ n → n < 2 → (ofZ w32 (signed c) ≡ 4294967295) ⊎ (ofZ w32 (signed c) ≡ 4294967294)
+    go zero e h = inl (ap (ofZ w32) (is ∙ ap negsuc e))
+    go (suc zero) e h = inr (ap (ofZ w32) (is ∙ ap negsuc e))
+    go (suc (suc n)) e h = absurd (omega arith)
 
 small : (c : ℕ) → mag (signed c) < 64
 unfolding signed

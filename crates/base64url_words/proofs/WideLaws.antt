@@ -19,6 +19,7 @@ use Rattle.base64url_rules.specs.Alphabet.{value, inAlphabet}
 use Rattle.base64url_rules.specs.Listed.{length-entries}
 use Rattle.base64url_rules.specs.Tables.{entries, entry, signed}
 use Rattle.base64url_words.specs.Words.{bits, shifted, word, raised, wide}
+use Rattle.base64url_words.proofs.SignLaws.{outside-bits}
 use Rattle.base64url_words.proofs.WordLaws.{word-fits}
 
 -- WHAT IT HAS
@@ -87,7 +88,7 @@ eighteen c = go (inAlphabet c) refl
         let h = ltb-true (value c) 64 e in
         let up : value c * 64 * 4096 ≡ value c * 262144 = omega arith in
         rw (e, mod-eq-of-lt {n = value c * 64} {m = 4294967296} (omega arith), up)
-    go false e = rw e
+    go false e = ⊎-elim (λ p. rw p) (λ p. rw p) (outside-bits c e)
 
 shift-or : (x y : ℕ) → bitOr x y * 4096 % 4294967296 ≡ bitOr (x * 4096 % 4294967296) (y * 4096 % 4294967296)
 shift-or x y =

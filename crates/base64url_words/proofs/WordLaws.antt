@@ -1,5 +1,6 @@
 -- The word of a group: below 2 ^ 31, and so not below 0, exactly when all four characters are of the alphabet; and then its bytes are theirs.
 use mathlib.Core.Path.{_≡_, refl, ap, sym, _∙_}
+use mathlib.Core.Logic.{⊎-elim}
 use mathlib.Core.Bool.{Bool, true, false, _&&_, and-assoc, and-true, false≢true}
 use mathlib.Core.List.{List, [], _∷_, _++_}
 use Prim.Native.Nat.{ℕ, _+_, _*_, _/_, _%_, _^_, _≤_, _<_}
@@ -21,7 +22,7 @@ use Rattle.base64url_rules.specs.GroupLaws.{strict-groups, strict-append, decod
 use Rattle.base64url_rules.specs.Listed.{as-entries}
 use Rattle.base64url_rules.specs.Tables.{entries, signed}
 use Rattle.base64url_words.specs.Words.{bits, shifted, word, bytes3, Grouped, Both}
-use Rattle.base64url_words.proofs.SignLaws.{fits-32, sign, not-negative}
+use Rattle.base64url_words.proofs.SignLaws.{outside-bits, fits-32, sign, not-negative}
 
 -- one test for two numbers
 le-or-l : (a b : ℕ) → a ≤ bitOr a b
@@ -43,36 +44,43 @@ record Placed (c k n : ℕ) : Type 0 where
   number : inAlphabet c ≡ true → n ≡ value c * k
   test : ltb n 2147483648 ≡ inAlphabet c
 
--- shifted by fewer than 26 bits, -1 keeps its sign, and a value of six bits gets none
-placed : (c k : ℕ) → ((v : ℕ) → v < 64 → v * k < 2147483648) → ltb (4294967295 * k % 4294967296) 2147483648 ≡ false → Placed c k (shifted c k)
+-- shifted by fewer than 25 bits, -1 and -2 keep their sign, and a value of six bits gets none
+placed : (c k : ℕ) → ((v : ℕ) → v < 64 → v * k < 2147483648) → ltb (4294967295 * k % 4294967296) 2147483648 ≡ false → ltb (4294967294 * k % 4294967296) 2147483648 ≡ false
+    → Placed c k (shifted c k)
 unfolding signed
-placed c k small negative = go (inAlphabet c) refl
+placed c k small minus-1 minus-2 = go (inAlphabet c) refl
   where
+    tested : ℕ → Bool
+    tested n = ltb (n * k % 4294967296) 2147483648
+
     go : (t : Bool) → inAlphabet c ≡ t → Placed c k (shifted c k)
     go true e =
         let h = small (value c) (ltb-true (value c) 64 e) in
         let n : shifted c k ≡ value c * k = rw e (mod-eq-of-lt {n = value c * k} {m = 4294967296} (omega arith)) in
         record { number = λ _. n; test = rw (n, e) (lt-ltb (value c * k) 2147483648 h) }
-    go false e = record { number = λ t. absurd (false≢true (sym e ∙ t)); test = rw e negative }
+    go false e = record { number = λ t. absurd (false≢true (sym e ∙ t)); test = ⊎-elim (λ p. ap tested p ∙ minus-1) (λ p. ap tested p ∙ minus-2) (outside-bits c e) ∙ sym e }
 
 -- the four places
 module _ (a b c d : ℕ) where
   first : Placed a 262144 (shifted a 262144)
-  first = placed a 262144 (λ v h. omega arith) refl
+  first = placed a 262144 (λ v h. omega arith) refl refl
 
   second : Placed b 4096 (shifted b 4096)
-  second = placed b 4096 (λ v h. omega arith) refl
+  second = placed b 4096 (λ v h. omega arith) refl refl
 
   third : Placed c 64 (shifted c 64)
-  third = placed c 64 (λ v h. omega arith) refl
+  third = placed c 64 (λ v h. omega arith) refl refl
 
   last : Placed d 1 (bits (signed d))
   unfolding signed
   last = go (inAlphabet d) refl
     where
+      tested : ℕ → Bool
+      tested n = ltb n 2147483648
+
       go : (t : Bool) → inAlphabet d ≡ t → Placed d 1 (bits (signed d))
       go true e = let h = ltb-true (value d) 64 e in record { number = λ _. rw e (omega arith); test = rw e (lt-ltb (value d) 2147483648 (omega arith)) }
-      go false e = record { number = λ t. absurd (false≢true (sym e ∙ t)); test = rw e }
+      go false e = record { number = λ t. absurd (false≢true (sym e ∙ t)); test = ⊎-elim (ap tested) (ap tested) (outside-bits d e) ∙ sym e }
 
   pub word-fits : Fits w32 (word a b c d)
   word-fits =

@@ -17,7 +17,7 @@ use Rattle.base64url_rules.specs.Tables.{entries, signed}
 abbrev pub bits : ℤ → ℕ
 bits = ofZ w32
 
--- a character's value shifted, so that it is multiplied by k; -1, all of whose bits are set, stays below 0
+-- a character's value shifted, so that it is multiplied by k; what is near below 0 stays below 0, since its high bits are all set
 abbrev pub shifted : ℕ → ℕ → ℕ
 shifted c k = bits (signed c) * k % 4294967296
 

@@ -10,7 +10,7 @@ use reference::base64url;
 use stopwatch::{least_of_both, least_of_each, report, report_each};
 
 /// The most that decoding segments of [`LONGEST`] characters may take, in times of the reference.
-const MOST_OF_REFERENCE: f64 = 1.10;
+const MOST_OF_REFERENCE: f64 = 0.85;
 
 /// Rounds of one message.
 const ROUNDS: usize = 400;
