@@ -14,6 +14,8 @@ const ALPHABET: &[u8; 64] = b"ABCDEFGHIJKLMNOPQRSTUVWXYZabcdefghijklmnopqrstuvwx
 const OUTSIDE: &[u8; 8] = b"=+/. \0\x80\xFF";
 
 const SHORT_TEXTS: RangeInclusive<usize> = 0..=40;
+/// Around 4,096 characters, where the decoder takes up another table.
+const MIDDLE_TEXTS: RangeInclusive<usize> = 4_090..=4_102;
 const LONG_TEXTS: RangeInclusive<usize> = 15_990..=16_010;
 const LONG_TEXT: usize = 16_000;
 
@@ -153,7 +155,7 @@ fn every_byte_at_every_place() {
 #[test]
 fn good_texts_into_every_buffer() {
     let mut seen = Seen::default();
-    for length in SHORT_TEXTS.chain(LONG_TEXTS) {
+    for length in SHORT_TEXTS.chain(MIDDLE_TEXTS).chain(LONG_TEXTS) {
         let (text, needed) = (good_text(length), decoded_len(length));
         for room in rooms(length) {
             let expected = match length % 4 {
@@ -164,8 +166,10 @@ fn good_texts_into_every_buffer() {
             assert_eq!(seen.compare::<LARGE>(&text, room), expected, "{text:?}");
         }
     }
-    // Strict are 31 of the short texts and 16 of the long ones. Three buffers are long enough, two aren't; the shortest texts have fewer of these.
-    assert_eq!(seen.0, [3 * 31 + 3 * 16, 5 * 10 - 2 + 5 * 5, 2 * 31 - 3 + 2 * 16]);
+    // Strict are 31 of the short texts, 10 of the middle ones and 16 of the long ones. Three buffers are long enough, two aren't; the shortest
+    // texts have fewer of these.
+    let (strict, others) = (31 + 10 + 16, 10 + 3 + 5);
+    assert_eq!(seen.0, [3 * strict, 5 * others - 2, 2 * strict - 3]);
 }
 
 #[test]
@@ -234,7 +238,7 @@ fn two_faults_from_every_place_of_a_long_text() {
 #[test]
 fn bad_last_characters() {
     let mut seen = Seen::default();
-    for length in SHORT_TEXTS.chain(LONG_TEXTS) {
+    for length in SHORT_TEXTS.chain(MIDDLE_TEXTS).chain(LONG_TEXTS) {
         let (mut text, step) = (good_text(length), last_step(length));
         for value in (0..64).filter(|value| value % step != 0) {
             text[length - 1] = ALPHABET[value];
@@ -244,8 +248,8 @@ fn bad_last_characters() {
             }
         }
     }
-    // 16 lengths with 60 such characters, 15 with 48; five buffers, but four for a text of two characters.
-    let fault = 16 * 60 * 5 - 60 + 15 * 48 * 5;
+    // 20 lengths with 60 such characters, 18 with 48; five buffers, but four for a text of two characters.
+    let fault = 20 * 60 * 5 - 60 + 18 * 48 * 5;
     assert_eq!(seen.0, [0, fault, 0]);
 }
 
