@@ -4,7 +4,7 @@ use mathlib.Core.Logic.{⊎-elim}
 use mathlib.Core.Bool.{Bool, true, false, _&&_, and-assoc, and-true, false≢true}
 use mathlib.Core.List.{List, [], _∷_, _++_}
 use Prim.Native.Nat.{ℕ, _+_, _*_, _/_, _%_, _^_, _≤_, _<_}
-use native.Mathlib.Nat.{mod-eq-of-lt}
+use native.Mathlib.Nat.{mod-eq-of-lt, mul-one}
 use native.Mathlib.Omega.{arith}
 use lib.Bits.{bitOr, or-add-and, and-le-l, and-le-r, or-lt, or-shifted}
 use lib.Dec.{ltb}
@@ -31,7 +31,7 @@ le-or-l a b = omega (arith, or-add-and a b, and-le-r a b)
 le-or-r : (a b : ℕ) → b ≤ bitOr a b
 le-or-r a b = omega (arith, or-add-and a b, and-le-l a b)
 
-pub or-test : (k a b : ℕ) → ltb (bitOr a b) (2 ^ k) ≡ ltb a (2 ^ k) && ltb b (2 ^ k)
+or-test : (k a b : ℕ) → ltb (bitOr a b) (2 ^ k) ≡ ltb a (2 ^ k) && ltb b (2 ^ k)
 or-test k a b = go (ltb a (2 ^ k)) (ltb b (2 ^ k)) refl refl
   where
     go : (t u : Bool) → ltb a (2 ^ k) ≡ t → ltb b (2 ^ k) ≡ u → ltb (bitOr a b) (2 ^ k) ≡ t && u
@@ -72,15 +72,9 @@ module _ (a b c d : ℕ) where
   third = placed c 64 (λ v h. omega arith) refl refl
 
   last : Placed d 1 (bits (signed d))
-  unfolding signed
-  last = go (inAlphabet d) refl
-    where
-      tested : ℕ → Bool
-      tested n = ltb n 2147483648
-
-      go : (t : Bool) → inAlphabet d ≡ t → Placed d 1 (bits (signed d))
-      go true e = let h = ltb-true (value d) 64 e in record { number = λ _. rw e (omega arith); test = rw e (lt-ltb (value d) 2147483648 (omega arith)) }
-      go false e = record { number = λ t. absurd (false≢true (sym e ∙ t)); test = ⊎-elim (ap tested) (ap tested) (outside-bits d e) ∙ sym e }
+  last =
+      let e : shifted d 1 ≡ bits (signed d) = ap (λ (n : ℕ). n % 4294967296) (mul-one (bits (signed d))) ∙ mod-eq-of-lt (ofZ-fits w32 (signed d) (fits-32 d) .fits) in
+      rw e at (placed d 1 (λ v h. omega arith) refl refl)
 
   pub word-fits : Fits w32 (word a b c d)
   word-fits =
