@@ -65,9 +65,9 @@ module _ (s out : List ℕ) (h : length s ≡ 4) {ok : Bool} {vs : List ℕ} (g 
   group-answer : ok ≡ strict s
   group-answer = g .answer ∙ ap strict (as-entries s 4 h)
 
-  pub alone : {new : List ℕ} → length vs ≤ length out → (ok ≡ true → new ≡ sets out 0 vs) → Decodes s out ok new
+  pub group-alone : {new : List ℕ} → length vs ≤ length out → (ok ≡ true → new ≡ sets out 0 vs) → Decodes s out ok new
   unfolding decode
-  alone k stored =
+  group-alone k stored =
       record {
         answer = group-answer;
         bytes = λ e. let bytes : decode s ≡ vs = ap decode (sym (as-entries s 4 h)) ∙ g .bytes e in stored e ∙ rw bytes (laid-stores [] out 0 refl vs (omega arith));

@@ -24,7 +24,7 @@ use Rattle.base64url_words.proofs.WordLaws.{word-fits}
 
 -- WHAT IT HAS
 
-pub length-wide : length wide ≡ 512
+length-wide : length wide ≡ 512
 unfolding wide
 length-wide = length-append (entries signed 0 256) (entries raised 0 256) ∙ rw (length-entries signed 0 256, length-entries raised 0 256)
 

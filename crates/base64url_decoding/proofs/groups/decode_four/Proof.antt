@@ -5,7 +5,7 @@ use native.Mathlib.Omega.{arith}
 use lib.ListN.{length-set}
 use borrow.Author.Needs.{needs}
 use Rattle.base64url_rules.specs.Tables.{entries}
-use Rattle.base64url_decoding.proofs.DecodeLaws.{alone}
+use Rattle.base64url_decoding.proofs.DecodeLaws.{group-alone}
 use Rattle.base64url_decoding.proofs.groups.decode_four.Statement.{statement}
 use Rattle.base64url_decoding.proofs.groups.decode_four.Tie as tie
 
@@ -16,13 +16,13 @@ returns : tie.Need-returns
 unfolding entries
 returns c =
     let p = c .before .before .before .before .before .before .before .before .pre in
-    alone _ _ (p .1) (c .before .decode-group .ensures) (p .2) (λ _. refl)
+    group-alone _ _ (p .1) (c .before .decode-group .ensures) (p .2) (λ _. refl)
 
 returns-2 : tie.Need-returns-2
 unfolding entries
 returns-2 c =
     let p = c .before .before .before .before .before .before .before .before .pre in
-    alone _ _ (p .1) (c .before .decode-group .ensures) (p .2) (λ t. absurd (false≢true (sym (c .if1 .left) ∙ t)))
+    group-alone _ _ (p .1) (c .before .decode-group .ensures) (p .2) (λ t. absurd (false≢true (sym (c .if1 .left) ∙ t)))
 
 pub decode-four-spec : {M : Type 1} → statement M
 decode-four-spec =
