@@ -10,7 +10,7 @@ use base64url_words::decode_group;
 use base64url_words::widened;
 use base64url_words::words_of;
 
-// From this length on a text is decoded by the table for long texts. On x86-64 that pays from some 400 characters on. On small processors it gains
+// From this length on a text is decoded by the table for long texts. On x86-64 that pays from some 800 characters on. On small processors it gains
 // nothing and takes some thousand instructions to make, so that it is left to texts that nodes seldom get.
 const LONG: usize = 4096;
 
