@@ -151,9 +151,9 @@ def main():
 
 def aliases(text):
     """The short names of a file for modules of definitions and lemmas."""
-    for crate, kind, module, alias in re.findall(r"^use Rattle\.(\w+)\.(specs|proofs)\.([\w.]+) as (\S+)$", text, re.M):
+    for crate, kind, module, alias in re.findall(r"^use Rattle\.(\w+)\.(specs|proofs)\.([\w.]+)(?: as (\S+))?$", text, re.M):
         if os.path.exists(f"crates/{crate}/{kind}/{module.replace('.', '/')}.antt"):
-            yield alias
+            yield alias or module.split(".")[-1]
 
 
 def record_fields():

@@ -1,4 +1,6 @@
 // The answers of every call, numbered as in docs/SPECIFICATION.md and named as in include/jws.h.
+#![tactic(auto)]
+
 ghost use Rattle.std.specs.Prelude.{◌≡◌, [], ◌∷◌};
 
 // Done.

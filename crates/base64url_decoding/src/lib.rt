@@ -1,5 +1,7 @@
 // Decoding strict base64url without padding (RFC 4648 section 5): a segment's text to its bytes. The definitions and theorems stand in
 // crate `base64url_rules`.
+#![tactic(auto)]
+
 ghost use Rattle.std.specs.Prelude.{◌≡◌, length};
 ghost use Rattle.base64url_rules.specs.Base64url.{decoded_length};
 ghost use Rattle.base64url_rules.specs.Outcome.{decoded_to, decoding};

@@ -1,5 +1,7 @@
 // Encoding as base64url without padding (RFC 4648 section 5): bytes to a segment's text. The definitions and theorems stand in
 // crate `base64url_rules`.
+#![tactic(auto)]
+
 ghost use Rattle.std.specs.Prelude.{◌≡◌, length};
 ghost use Rattle.base64url_rules.specs.Base64url.{encoded_length};
 ghost use Rattle.base64url_rules.specs.Outcome.{encoded_to, encoding};

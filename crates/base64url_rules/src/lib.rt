@@ -1,5 +1,6 @@
 // Strict base64url without padding (RFC 4648 section 5) as definitions and theorems, in specs/, and the answers that they speak of. The crates
 // `base64url_decoding` and `base64url_encoding` compute them.
+#![tactic(auto)]
 
 // The answer of decoding: how many bytes were written; the place of the fault in a text that is not strict; or a strict text
 // whose bytes the buffer has no room for.

@@ -1,4 +1,6 @@
 // The characters of a base64url text as numbers, a group of four at a time: what `base64url_decoding` writes bytes from.
+#![tactic(auto)]
+
 mod values; // values.rt: the values of the characters
 mod words; // words.rt: four characters as one number
 mod wide; // wide.rt: the table for long texts

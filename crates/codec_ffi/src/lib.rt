@@ -1,4 +1,6 @@
 // The codecs, exported for the tests and benchmarks in rust/. No part of the library's own boundary.
+#![tactic(auto)]
+
 ghost use Rattle.std.specs.Prelude.{◌≡◌};
 ghost use Rattle.base64url_rules.specs.Outcome.{decoding, encoding};
 ghost use Rattle.sha2_rules.specs.Hash.{SHA256};

@@ -1,5 +1,7 @@
 // Runs the published vectors on standard input, one a line, and writes each line with what was computed in the place of
 // the published value. Lines that no crate here computes, comments among them, are passed over.
+#![tactic(auto)]
+
 mod line;
 mod repeat;
 mod text;

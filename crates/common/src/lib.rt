@@ -1,4 +1,6 @@
 // What several crates need of byte slices: clearing, copying, and numbers in bytes.
+#![tactic(auto)]
+
 ghost use Rattle.std.specs.Prelude.{◌≡◌, ◌+◌, ◌≤◌, ◌<◌, length, replicate};
 ghost use Rattle.std.proofs.Math.Seq.{paste};
 ghost use Rattle.common.specs.BigEndian.{number2, number4};

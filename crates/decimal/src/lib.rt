@@ -1,4 +1,6 @@
 // An integer's decimal text, read into i64: exact at both ends and at -0.
+#![tactic(auto)]
+
 ghost use Rattle.std.specs.Prelude.{◌≡◌, ◌-◌, ◌≤◌, neg_ℤ, pos};
 ghost use Rattle.decimal_rules.specs.Integer.{integer_of};
 ghost use Rattle.decimal.specs.Magnitude.{magnitude_of};

@@ -1,4 +1,6 @@
 // HMAC-SHA256 (RFC 2104 and RFC 7518, section 3.2).
+#![tactic(auto)]
+
 ghost use Rattle.std.specs.Prelude.{◌≡◌, ℕ, ◌++◌, map};
 ghost use Rattle.std.specs.Int.Bits.{bit_xor};
 ghost use Rattle.sha2_rules.specs.Parameters.{K as RoundConstants};

@@ -1,5 +1,7 @@
 // The rules on a header's known members: from a header's bytes and a key table to the key, the format and the raw texts that the header
 // decides, or the number of the refusal (RFC 7515 section 4 with the house rules; answers 2, 5 and 7 to 14).
+#![tactic(auto)]
+
 ghost use Rattle.std.specs.Prelude.{◌≡◌, false};
 ghost use Rattle.keytable_rules.specs.Table.{bad_table};
 ghost use Rattle.jose_rules.specs.Rules.{terms_of};

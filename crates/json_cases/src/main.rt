@@ -1,4 +1,6 @@
 // Runs headers on both sides of each rule. A line has what was run, the header's answer, and a member, the refusal or the number of members.
+#![tactic(auto)]
+
 ghost use Rattle.std.specs.Prelude.{◌≤◌, length};
 
 use json_header::{Member, Place};

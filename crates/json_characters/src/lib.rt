@@ -1,4 +1,6 @@
 // Characters of a JSON text, by place: RFC 8259 section 7 with the house rules, RFC 3629.
+#![tactic(auto)]
+
 mod classes; // classes.rt: classes of bytes and of code points
 mod utf8; // utf8.rt: forms of several octets, read and written
 mod escapes; // escapes.rt: what follows a reverse solidus

@@ -1,4 +1,6 @@
 // Whether a text is one JSON object within a depth, and whether an object in it has a name twice.
+#![tactic(auto)]
+
 mod marks; // marks.rt: what a text has of objects
 mod names; // names.rt: names that stand twice in one object
 

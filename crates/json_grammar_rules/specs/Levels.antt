@@ -26,4 +26,4 @@ read_members n d s = Reader.members n (λ e r. read_value n e r) (λ e r. read_m
 
 -- what stands between braces, and the closing one
 abbrev pub read_in_object : ℕ → ℕ → List ℕ → Got LMembers
-read_in_object n d s = Reader.inObject n (λ e r. read_value n e r) (λ e r. read_more_elements n e r) (λ e r. read_more_members n e r) d s
+read_in_object n d s = Reader.in_object n (λ e r. read_value n e r) (λ e r. read_more_elements n e r) (λ e r. read_more_members n e r) d s

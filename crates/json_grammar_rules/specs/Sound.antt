@@ -219,7 +219,7 @@ module _ (n : ℕ) (below : Below n) where
     where
       P : ValueLead → Type 0
       P l =
-          Reader.value-by n (λ e r. read_value n e r) (λ e r. read_more_elements n e r) (λ e r. read_more_members n e r) d l b s ≡ got v r
+          Reader.value_by_lem n (λ e r. read_value n e r) (λ e r. read_more_elements n e r) (λ e r. read_more_members n e r) d l b s ≡ got v r
           → FoundBare d (b ∷ s) r
 
       string : b ≡ 0x22 → over string_l (read_chars n s) ≡ got v r → FoundBare d (b ∷ s) r

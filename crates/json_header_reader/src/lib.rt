@@ -1,4 +1,6 @@
 // A reader that holds a header and the number of a member, over the member reader on bytes and number; and the members counted by it.
+#![tactic(auto)]
+
 ghost use Rattle.std.specs.Prelude.{◌≡◌};
 ghost use Rattle.json_rules.specs.Answers.{number_of};
 ghost use Rattle.json_rules.specs.Tests.{member_of};

@@ -1,4 +1,6 @@
 // Compact tokens (RFC 7515 section 7.1) with HS256: verifying.
+#![tactic(auto)]
+
 mod judging; // judging.rt: the rules of verifying, phase by phase
 
 ghost use Rattle.std.specs.Prelude.{◌≡◌};

@@ -1,4 +1,6 @@
 // The functions exported to C and Rust; include/jws.h declares them. A slice passes as its pointer and its length.
+#![tactic(auto)]
+
 mod members; // members.rt: the member reader
 mod tokens; // tokens.rt: verifying, the payload and signing
 

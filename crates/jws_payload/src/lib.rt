@@ -1,4 +1,6 @@
 // The payload of an accepted token, as a part of the buffer that verifying filled.
+#![tactic(auto)]
+
 ghost use Rattle.std.specs.Prelude.{◌≡◌};
 ghost use Rattle.jws_rules.specs.Outcomes.{part_length, payload};
 

@@ -1,4 +1,6 @@
 // A compact token's segments (RFC 7515 section 7.1): where its periods stand, decoding them, and the signature compared with a MAC.
+#![tactic(auto)]
+
 mod periods; // periods.rt: where a token's periods stand
 mod equal; // equal.rt: whether two MACs are equal
 mod segment; // segment.rt: decoding one segment

@@ -1,4 +1,6 @@
 // Compact tokens (RFC 7515 section 7.1) with HS256: signing.
+#![tactic(auto)]
+
 mod making; // making.rt: a token in a lent buffer
 
 ghost use Rattle.std.specs.Prelude.{◌≡◌};

@@ -1,4 +1,6 @@
 // What the calls give, as numbers and words for callers in C and Rust; and the boundary's number.
+#![tactic(auto)]
+
 mod members; // members.rt: a member's answer
 mod tokens; // tokens.rt: a record, and the payload's length
 

@@ -1,5 +1,7 @@
 // The keys that a table's bytes mean. The table is read at each call, straight from its bytes; ids and secrets are handed on as parts of it.
 // Every function asks for a table that isn't bad (`keytable_check::good`).
+#![tactic(auto)]
+
 ghost use Rattle.std.specs.Prelude.{◌≡◌, false, ◌+◌, ◌≤◌, ◌<◌, length, get_or};
 ghost use Rattle.keytable_rules.specs.Key.{key, allows_hS256, allows_format, find};
 ghost use Rattle.keytable_rules.specs.Table.{entry_size, entry_place, bad_table, keys};

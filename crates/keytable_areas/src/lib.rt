@@ -1,4 +1,6 @@
 // The entries and areas of the key table: where an entry begins, the bytes of an area, and equal bytes.
+#![tactic(auto)]
+
 ghost use Rattle.std.specs.Prelude.{◌≡◌, ◌+◌, ◌≤◌, ◌<◌, length};
 ghost use Rattle.common.specs.First.{Decides};
 ghost use Rattle.keytable_rules.specs.Table.{entry_place, area_at, part, id_area, id_of};

@@ -1,4 +1,6 @@
 // Whether the bytes of a key table are in order.
+#![tactic(auto)]
+
 mod entries;
 mod limits;
 

@@ -1,5 +1,7 @@
 // SHA-256's functions on words (FIPS 180-4, section 4.1.2). Those of a round are written in two ways: `words` as the standard has them, with
 // short chains of operations, for a machine that carries out several at once; `fewer` with fewer operations.
+#![tactic(auto)]
+
 mod fewer; // fewer.rt: Maj and the big sigmas with fewer operations
 mod words; // words.rt: the functions as the standard has them
 

@@ -1,5 +1,7 @@
 // Verifies a token: reads `table.bin` and `token.txt` in the working folder and prints one line, `accepted key=0 fmt=1 payload=70`
 // or `refused ` and the answer's number.
+#![tactic(auto)]
+
 ghost use Rattle.io.specs.Counts.{IsPrefixLen};
 
 use answers::DONE;

@@ -1,0 +1,40 @@
+-- `decode_rest` meets its contract, by the number of characters.
+use mathlib.Core.Logic.{⊎_elim}
+use mathlib.Core.Bool.{and-false}
+use native.Mathlib.Omega.{arith}
+use lib.ListN.{length-set}
+use Rattle.base64url_rules.specs.Tables.{entries}
+use Rattle.base64url_decoding.proofs.DecodeLaws.{nothing}
+use Rattle.base64url_decoding.proofs.RestLaws.{as_listed, alone, two_good, two_bad, three_good, three_bad}
+use Rattle.base64url_decoding.proofs.groups.decode_rest.Goals as goal
+
+pub returns-then-n-eq0 : goal.returns-then-n-eq0
+unfolding entries
+returns-then-n-eq0 c = as_listed _ 0 c.if-n-eq0.true (nothing _)
+
+pub returns-then-n-eq1 : goal.returns-then-n-eq1
+unfolding entries
+returns-then-n-eq1 c = as_listed _ 1 c.if-n-eq1.true (alone _ _)
+
+pub returns-then-g-eq0 : goal.returns-then-g-eq0
+unfolding entries
+returns-then-g-eq0 c = as_listed _ 2 (omega arith) (two_good _ _ _ _ _ _ _ c.decode_group-g.ensures (omega arith) c.if-g.true c.if-g-eq0.true)
+
+pub returns-then-n-eq2 : goal.returns-then-n-eq2
+unfolding entries
+returns-then-n-eq2 c =
+    as_listed _ 2 (omega arith)
+    (two_bad _ _ _ _ _ _ _ c.decode_group-g.ensures (⊎_elim (λ w. rw w.2.left (and-false c.decode_group-g.result.ok)) (λ w. rw w.left) c.else-g.branch))
+
+pub bounds-out-1 : goal.bounds-out-1
+bounds-out-1 c = simp length-set (omega arith)
+
+pub returns-then-g-eq0-2 : goal.returns-then-g-eq0-2
+unfolding entries
+returns-then-g-eq0-2 c = as_listed _ 3 (omega arith) (three_good _ _ _ _ _ _ _ _ c.decode_group-g-2.ensures (omega arith) c.if-g-2.true c.if-g-eq0-2.true)
+
+pub returns : goal.returns
+unfolding entries
+returns c =
+    as_listed _ 3 (omega arith)
+    (three_bad _ _ _ _ _ _ _ _ c.decode_group-g-2.ensures (⊎_elim (λ w. rw w.2.left (and-false c.decode_group-g-2.result.ok)) (λ w. rw w.left) c.else-g-2.branch))

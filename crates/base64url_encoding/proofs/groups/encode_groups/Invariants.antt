@@ -1,0 +1,18 @@
+-- `encode_groups` meets its contract: up to i, the text of the groups is written.
+use mathlib.Core.Path.{◌≡◌, refl, ◌∙◌}
+use Prim.Native.Nat.{◌+◌, ◌≤◌, ◌-◌, ◌*◌}
+use native.Mathlib.Omega.{arith}
+use lib.ListN.{length, take, length-set}
+use lib.Seq.{take_all}
+use Rattle.common.specs.Buffer.{laid}
+use Rattle.common.specs.Laid.{four_stores}
+use Rattle.base64url_rules.specs.Base64url.{encode}
+use Rattle.base64url_rules.specs.Grouping.{encode_grouping, group_more}
+use Rattle.base64url_rules.specs.Tables.{entries}
+use Rattle.base64url_encoding.proofs.groups.encode_groups.Given as goal
+
+abbrev pub invariant-loop-i : goal.invariant-loop-i
+invariant-loop-i l = (l.i ≤ l.n) × (length l.out ≡ length l.initial.out) × (l.out ≡ laid (encode (take (l.i * 3) l.bytes)) l.initial.out)
+
+abbrev pub decreases-loop-i : goal.decreases-loop-i
+decreases-loop-i l = l.n - l.i

@@ -1,0 +1,19 @@
+-- `both` meets its contract.
+use borrow.Author.Rules.{rules}
+use Prim.{tt}
+use mir.Syntax.{w32}
+use mir.ValLaws.{of_z_fits}
+use Rattle.base64url_words.proofs.WordLaws.{both_refused, first_number, second_number, both_taken}
+use Rattle.base64url_words.proofs.words.both.Goals as goal
+
+pub returns-then-x-y-lt0 : goal.returns-then-x-y-lt0
+returns-then-x-y-lt0 c = both_refused _ _ c.if-x-y-lt0.true
+
+pub overflow_cast-result : goal.overflow_cast-result
+overflow_cast-result c = rw (first_number c.args.x c.args.y c.if-x-y-lt0.false) (tt, of_z_fits w32 c.args.x (search rules))
+
+pub overflow_cast-result-2 : goal.overflow_cast-result-2
+overflow_cast-result-2 c = rw (second_number c.args.x c.args.y c.if-x-y-lt0.false) (tt, of_z_fits w32 c.args.y (search rules))
+
+pub returns : goal.returns
+returns c = both_taken _ _ c.if-x-y-lt0.false

@@ -1,0 +1,48 @@
+-- `low` meets its contract.
+use mathlib.Core.Path.{refl, sym, ◌∙◌}
+use native.Mathlib.Omega.{arith}
+use Rattle.json_grammar_rules.specs.Bytes.{is_low, pair_code}
+use Rattle.json_grammar_rules.specs.Reader.{read_hex}
+use Rattle.json_characters.proofs.ScanLaws.{scanned}
+use Rattle.json_characters.proofs.EscapeLaws.{pair_high, pair_low, low_short, low_no_escape, low_no_u, low_no_hex, low_is, low_not}
+use Rattle.json_characters.proofs.escapes.low.Goals as goal
+
+pub returns-then-s-at-lt2 : goal.returns-then-s-at-lt2
+returns-then-s-at-lt2 c = low_short _ _ _ c.if-s-at-lt2.true
+
+pub returns-then-s-at-ne92 : goal.returns-then-s-at-ne92
+returns-then-s-at-ne92 c = low_no_escape _ _ _ (omega (arith, c.if-s-at-lt2.false)) c.if-s-at-ne92.true
+
+pub returns-then-s-at-ne117 : goal.returns-then-s-at-ne117
+returns-then-s-at-ne117 c = low_no_u _ _ _ (omega (arith, c.if-s-at-lt2.false)) c.if-s-at-ne92.false c.if-s-at-ne117.true
+
+pub returns-in_default : goal.returns-in_default
+returns-in_default c =
+    low_no_hex _ _ _ (omega (arith, c.if-s-at-lt2.false)) c.if-s-at-ne92.false c.if-s-at-ne117.false (scanned read_hex _ _ _ _ c.hex.ensures c.in_default.is)
+
+pub overflow_sub-result : goal.overflow_sub-result
+overflow_sub-result c = (pair_high _ c.requires.1).0
+
+pub overflow_mul-result : goal.overflow_mul-result
+overflow_mul-result c = omega (arith, pair_high _ c.requires.1)
+
+pub overflow_add-result : goal.overflow_add-result
+overflow_add-result c = omega (arith, pair_high _ c.requires.1)
+
+pub overflow_sub-result-then-between32 : goal.overflow_sub-result-then-between32
+unfolding is_low
+overflow_sub-result-then-between32 c = (pair_low _ (sym c.between32.ensures ∙ c.if-between32.true)).0
+
+pub overflow_add-result-then-between32 : goal.overflow_add-result-then-between32
+unfolding is_low
+overflow_add-result-then-between32 c = omega (arith, pair_high _ c.requires.1, pair_low _ (sym c.between32.ensures ∙ c.if-between32.true))
+
+pub returns-then-between32 : goal.returns-then-between32
+unfolding is_low pair_code
+returns-then-between32 c =
+    low_is _ _ _ (omega (arith, c.if-s-at-lt2.false)) c.if-s-at-ne92.false c.if-s-at-ne117.false _ _ _ (scanned read_hex _ _ _ _ c.hex.ensures c.in-Code.is) (sym c.between32.ensures ∙ c.if-between32.true) refl
+
+pub returns : goal.returns
+unfolding is_low
+returns c =
+    low_not _ _ _ (omega (arith, c.if-s-at-lt2.false)) c.if-s-at-ne92.false c.if-s-at-ne117.false _ _ (scanned read_hex _ _ _ _ c.hex.ensures c.in-Code.is) (sym c.between32.ensures ∙ c.if-between32.false)

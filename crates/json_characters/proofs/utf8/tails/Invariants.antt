@@ -1,0 +1,20 @@
+-- `tails` meets its contract. The loop's invariant: what is right for the octets left is right for all; the bits so far leave room for those left.
+use mathlib.Core.Path.{sym, ◌∙◌}
+use native.Mathlib.Omega.{arith}
+use lib.Dec.{lit≤}
+use Prim.Native.Nat.{◌≤◌, ◌<◌}
+use lib.ListN.{length}
+use Rattle.json_characters.specs.declared.Scan.{Scan}
+use Rattle.json_characters.specs.Steps.{ScanAt, read_tails}
+use Rattle.json_grammar_rules.specs.ByteLaws.{within_true}
+use Rattle.json_characters.proofs.DigitLaws.{room, room_small, room_step, digits_more, digits_not, digits_out, digits_done}
+use Rattle.json_characters.proofs.FormLaws.{room_least, tail_bits}
+use Rattle.json_characters.proofs.utf8.tails.Given as goal
+
+abbrev pub invariant-loop-left : goal.invariant-loop-left
+invariant-loop-left l =
+    (l.at ≤ length l.s) × (0x80 ≤ l.low) × (l.high ≤ 0xBF) × (l.code < room 8388608 64 l.left)
+    × ((r : Scan) → ScanAt (read_tails l.left l.low l.high l.code) l.s l.at r → ScanAt (read_tails l.n l.lo l.hi l.x) l.s l.from r)
+
+abbrev pub decreases-loop-left : goal.decreases-loop-left
+decreases-loop-left l = l.left

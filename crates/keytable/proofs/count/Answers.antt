@@ -1,0 +1,11 @@
+-- `count`: the number in bytes 2 and 3.
+use mathlib.Core.Path.{sym, ◌∙◌}
+use native.Mathlib.Omega.{arith}
+use Rattle.keytable_rules.specs.TableLaws.{wellformed, length_keys}
+use Rattle.keytable.proofs.count.Goals as goal
+
+pub number2_at-requires : goal.number2_at-requires
+number2_at-requires c = omega (arith, (wellformed _ c.requires).long)
+
+pub returns : goal.returns
+returns c = c.number2_at.ensures.0 ∙ sym (length_keys _)

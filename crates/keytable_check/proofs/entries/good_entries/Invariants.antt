@@ -1,0 +1,14 @@
+-- `good_entries`: the entries before i are good.
+use Prim.Native.Nat.{◌-◌, ◌≤◌}
+use native.Mathlib.Omega.{arith}
+use borrow.Author.Count.{below_more}
+use Rattle.common.specs.First.{holds, fails}
+use Rattle.keytable_rules.specs.Table.{GoodEntries}
+use Rattle.common.specs.Decided.{when_true, when_false}
+use Rattle.keytable_check.proofs.entries.good_entries.Given as goal
+
+abbrev pub invariant-loop-i : goal.invariant-loop-i
+invariant-loop-i l = (l.i ≤ l.n) × GoodEntries l.table l.i
+
+abbrev pub decreases-loop-i : goal.decreases-loop-i
+decreases-loop-i l = l.n - l.i

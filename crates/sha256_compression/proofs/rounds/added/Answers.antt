@@ -1,0 +1,22 @@
+-- `sha256_compression::rounds::added` meets its contract.
+use Rattle.std.proofs.Common.{◌≡◌, ◌-◌, ◌≤◌, length, take, sym, refl, ◌∙◌, arith, length-set, take_all, rules}
+use Rattle.sha2_rules.specs.Parameters.{sha_256}
+use Rattle.sha2_rules.specs.Compression.{sums}
+use Rattle.sha2_rules.specs.RoundLaws.{one_sum}
+use Rattle.sha256_compression.proofs.rounds.added.Goals as goal
+
+pub loop-i-init : goal.loop-i-init
+unfolding sums
+loop-i-init c = (omega arith, omega arith, refl)
+
+pub loop-i-preserved : goal.loop-i-preserved
+loop-i-preserved c = (
+  omega arith,
+  simp length-set c.loop-i.invariant.1,
+  one_sum sha_256 c.args.t1 c.args.t2 c.loop-i.r c.loop-i.i c.wrapping_add_u32.result (omega arith) c.loop-i.invariant.2 c.wrapping_add_u32.ensures,
+)
+
+pub returns : goal.returns
+returns c =
+    let e : c.loop-i.i ≡ 8 = omega arith in
+    sym (take_all 8 c.loop-i.r (omega arith)) ∙ (rw e at c.loop-i.invariant.2)
