@@ -7,7 +7,7 @@ use json_tokens::skip_ws;
 
 // What follows an opening bracket, up to the closing one.
 // Rules out a bracket that counts for no level, and an array that a brace closes.
-#[cycle(array_elements_after_name_member_member_list_object_bare_value)]
+#[cycle(reading)]
 pub(crate) fn array(s: &[u8], from: usize, depth: usize) -> End
     ensures { ArrayEnds s.now from depth result }
 {
@@ -26,7 +26,7 @@ pub(crate) fn array(s: &[u8], from: usize, depth: usize) -> End
 
 // One element or more, and the closing bracket.
 // Rules out a comma before the closing bracket, and elements with no comma between them.
-#[cycle(array_elements_after_name_member_member_list_object_bare_value)]
+#[cycle(reading)]
 pub(crate) fn elements(s: &[u8], from: usize, depth: usize) -> End
     ensures { ElementsEnd s.now from depth result }
 {

@@ -7,7 +7,7 @@ use json_tokens::skip_ws;
 
 // What follows an opening brace, up to the closing one.
 // Rules out a brace that counts for no level, and an empty object at depth 0.
-#[cycle(array_elements_after_name_member_member_list_object_bare_value)]
+#[cycle(reading)]
 pub(crate) fn object(s: &[u8], from: usize, depth: usize) -> End
     ensures { ObjectEnds s.now from depth result }
 {
@@ -26,7 +26,7 @@ pub(crate) fn object(s: &[u8], from: usize, depth: usize) -> End
 
 // One member or more, and the closing brace.
 // Rules out a comma before the closing brace, and members with no comma between them.
-#[cycle(array_elements_after_name_member_member_list_object_bare_value)]
+#[cycle(reading)]
 pub(crate) fn member_list(s: &[u8], from: usize, depth: usize) -> End
     ensures { MembersEnd s.now from depth result }
 {
@@ -51,7 +51,7 @@ pub(crate) fn member_list(s: &[u8], from: usize, depth: usize) -> End
 
 // A member: a string, a colon and a value, with the white space after it.
 // Rules out a name that is no string, and a member that is missing after a comma.
-#[cycle(array_elements_after_name_member_member_list_object_bare_value)]
+#[cycle(reading)]
 pub(crate) fn member(s: &[u8], from: usize, depth: usize) -> End
     ensures { MemberEnds s.now from depth result }
 {
@@ -69,7 +69,7 @@ pub(crate) fn member(s: &[u8], from: usize, depth: usize) -> End
 
 // What follows a name: a colon and a value.
 // Rules out a comma in the place of the colon, and a name with no value.
-#[cycle(array_elements_after_name_member_member_list_object_bare_value)]
+#[cycle(reading)]
 pub(crate) fn after_name(s: &[u8], from: usize, depth: usize) -> End
     ensures { AfterName s.now from depth result }
 {

@@ -10,7 +10,7 @@ use json_tokens::{number_end, skip_ws, word_end};
 
 // A value, with white space before and after it.
 // Rules out an answer before the white space after the value, and a value that is deeper than `depth`.
-#[cycle(array_elements_after_name_member_member_list_object_bare_value)]
+#[cycle(reading)]
 pub(crate) fn value(s: &[u8], from: usize, depth: usize) -> End
     ensures { ValueEnds s.now from depth result }
 {
@@ -23,7 +23,7 @@ pub(crate) fn value(s: &[u8], from: usize, depth: usize) -> End
 
 // A value from its first byte on, without the white space after it.
 // Rules out a word that is cut short, and an array that is deeper than `depth`.
-#[cycle(array_elements_after_name_member_member_list_object_bare_value)]
+#[cycle(reading)]
 pub fn bare(s: &[u8], at: usize, depth: usize) -> End
     ensures { result ≡ bare_end s.now at depth }
 {

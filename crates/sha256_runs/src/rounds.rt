@@ -82,7 +82,7 @@ fn compress_one(s: [u32; 8], k: &[u32; 64], w: &[u32; 512], l: usize) -> [u32; 8
 // Rules out the first block in the place of each, and a last block left out.
 pub fn compress_eight(s: [u32; 8], k: &[u32; 64], w: &mut [u32; 512], b: &[u8]) -> [u32; 8]
     requires { (k.now ≡ RoundConstants) × (length w.old ≡ 512) × (length b.now ≡ 512) }
-    ensures w_len { (length w.new ≡ 512) × Woven sha_256 b.now w.new 512 }
+    ensures words { (length w.new ≡ 512) × Woven sha_256 b.now w.new 512 }
     ensures value { result ≡ hash_value sha_256 s b.now 8 }
 {
     first_words(b, w);

@@ -9,13 +9,6 @@ use Rattle.decimal_rules.specs.Integer.{integer_of}
 use Rattle.decimal.proofs.Laws.{nothing, signed, with_minus, without, at_most}
 use Rattle.decimal.proofs.parse.Goals as goal
 
--- of `unsigned`'s result, with and without a minus sign
-minus : (c : goal.After-unsigned) → integer_of c.args.text.now ≡ signed true c.unsigned.result
-minus c = with_minus _ c.if-text-eq0.false c.if-text-eq45.true ∙ ap (signed true) (sym c.unsigned.ensures)
-
-plain : (c : goal.After-unsigned-else-text-eq45) → integer_of c.args.text.now ≡ signed false c.unsigned-else-text-eq45.result
-plain c = without _ c.if-text-eq0.false c.if-text-eq45.false ∙ ap (signed false) (sym c.unsigned-else-text-eq45.ensures)
-
 pub returns-then-text-eq0 : goal.returns-then-text-eq0
 returns-then-text-eq0 c = sym (nothing _ c.if-text-eq0.true)
 
@@ -29,14 +22,14 @@ overflow_cast-result c =
 
 pub returns-in-Of : goal.returns-in-Of
 returns-in-Of c =
-    ap Is (to_z-of_z w64 _ (record { sfits = c.negated.type-inv }) ∙ c.negated.ensures)
-    ∙ sym (minus c ∙ ap (signed true) c.in-Of.is)
+    ap Is (to_z-of_z w64 _ (record { sfits = c.negated.type_inv }) ∙ c.negated.ensures)
+    ∙ sym (with_minus _ c.if-text-eq0.false c.if-text-eq45.true ∙ ap (signed true) (sym c.unsigned.ensures) ∙ ap (signed true) c.in-Of.is)
 
 pub returns-in-Beyond : goal.returns-in-Beyond
-returns-in-Beyond c = sym (minus c ∙ ap (signed true) c.in-Beyond.is)
+returns-in-Beyond c = sym (with_minus _ c.if-text-eq0.false c.if-text-eq45.true ∙ ap (signed true) (sym c.unsigned.ensures) ∙ ap (signed true) c.in-Beyond.is)
 
 pub returns-in-Of-unsigned : goal.returns-in-Of-unsigned
-returns-in-Of-unsigned c = ap Is (to_z_pos w64 _ (cast-t18 c).sfits) ∙ sym (plain c ∙ ap (signed false) c.in-Of-unsigned.is)
+returns-in-Of-unsigned c = ap Is (to_z_pos w64 _ (omega (arith, at_most _ _ _ (sym c.unsigned-else-text-eq45.ensures ∙ c.in-Of-unsigned.is)))) ∙ sym (without _ c.if-text-eq0.false c.if-text-eq45.false ∙ ap (signed false) (sym c.unsigned-else-text-eq45.ensures) ∙ ap (signed false) c.in-Of-unsigned.is)
 
 pub returns-in-Beyond-unsigned : goal.returns-in-Beyond-unsigned
-returns-in-Beyond-unsigned c = sym (plain c ∙ ap (signed false) c.in-Beyond-unsigned.is)
+returns-in-Beyond-unsigned c = sym (without _ c.if-text-eq0.false c.if-text-eq45.false ∙ ap (signed false) (sym c.unsigned-else-text-eq45.ensures) ∙ ap (signed false) c.in-Beyond-unsigned.is)

@@ -14,10 +14,10 @@ returns-then-rest-lt2 c =
 
 pub returns-then-rest-eq2 : goal.returns-then-rest-eq2
 unfolding unused_bits
-returns-then-rest-eq2 c = rw (c.before.value_of_lem.ensures, eq-eqb _ 2 c.if-rest-eq2.true)
+returns-then-rest-eq2 c = rw (c.value_of-last.ensures, eq-eqb _ 2 c.if-rest-eq2.true)
 
 pub returns-else-rest-eq2 : goal.returns-else-rest-eq2
 unfolding unused_bits
 returns-else-rest-eq2 c =
     let rest = length c.args.text.now % 4 in
-    rw (c.before.value_of_lem.ensures, ne_eqb rest 2 c.if-rest-eq2.false, eq-eqb rest 3 (omega arith))
+    rw (c.value_of-last.ensures, ne_eqb rest 2 c.if-rest-eq2.false, eq-eqb rest 3 (omega arith))

@@ -9,22 +9,17 @@ use Rattle.base64url_decoding.proofs.DecodeLaws.{not_strict, front_refused, whol
 use Rattle.base64url_decoding.proofs.groups.decode_all.Goals as goal
 
 pub slice_bounds-decode_pairs-end : goal.slice_bounds-decode_pairs-end
-slice_bounds-decode_pairs-end c = let s = c.before.before.before.args.text.now in sym (length-take-le (length s / 8 * 8) s (omega arith))
+slice_bounds-decode_pairs-end c = sym (length-take-le (length c.args.text.now / 8 * 8) c.args.text.now (omega arith))
 
 pub decode_pairs-requires : goal.decode_pairs-requires
 decode_pairs-requires c =
-    let p = c.before.before.before.before.requires in
-    let s = c.before.before.before.before.args.text.now in
-    let n = length-take-le (length s / 8 * 8) s (omega arith) in
-    (p.0, p.1, omega (arith, n), omega (arith, n))
+    let n = length-take-le (length c.args.text.now / 8 * 8) c.args.text.now (omega arith) in
+    (c.requires.0, c.requires.1, omega (arith, n), omega (arith, n))
 
 pub returns-then-not-decode_pairs : goal.returns-then-not-decode_pairs
 returns-then-not-decode_pairs c =
-    let s = c.before.before.before.before.before.before.before.before.args.text.now in
-    not_strict (front_refused s (length s / 8 * 8) (omega arith) (omega arith) (sym c.decode_pairs.ensures.answer ∙ not-true _ c.if-not-decode_pairs.true))
+    not_strict (front_refused c.args.text.now (length c.args.text.now / 8 * 8) (omega arith) (omega arith) (sym c.decode_pairs.ensures.answer ∙ not-true _ c.if-not-decode_pairs.true-raw))
 
 pub returns : goal.returns
 returns c =
-    let a = e.before.before.before.before.before.before.before.before.args in
-    let s = a.text.now in
-    whole s a.out.now c.decode_pairs.new.1.1.1.0 c.decode_last.new.1.1.0 (length s / 8 * 8) (length s / 8 * 6) (omega arith) (omega arith) (omega arith) (not-false _ c.if-not-decode_pairs.false) c.decode_pairs.ensures c.decode_last.ensures
+    whole c.args.text.now c.args.out.now c.decode_pairs.new.out c.decode_last.new.out (length c.args.text.now / 8 * 8) (length c.args.text.now / 8 * 6) (omega arith) (omega arith) (omega arith) (not-false _ c.if-not-decode_pairs.false-raw) c.decode_pairs.ensures c.decode_last.ensures

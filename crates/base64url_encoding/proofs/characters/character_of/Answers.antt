@@ -6,4 +6,4 @@ use Rattle.base64url_encoding.proofs.characters.character_of.Goals as goal
 
 pub returns : goal.returns
 unfolding characters
-returns c = rw c.before.requires.0 (entry 0 character 64 c.before.args.v (search rules))
+returns c = rw c.requires.0 (entry 0 character 64 c.args.v (search rules))

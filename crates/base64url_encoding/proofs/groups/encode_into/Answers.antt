@@ -10,23 +10,19 @@ use Rattle.base64url_encoding.proofs.RestLaws.{rest_fits}
 use Rattle.base64url_encoding.proofs.groups.encode_into.Goals as goal
 
 pub slice_bounds-encode_groups-end : goal.slice_bounds-encode_groups-end
-slice_bounds-encode_groups-end c = let s = c.before.before.before.args.bytes.now in sym (length-take-le (length s / 3 * 3) s (omega arith))
+slice_bounds-encode_groups-end c = sym (length-take-le (length c.args.bytes.now / 3 * 3) c.args.bytes.now (omega arith))
 
 pub encode_groups-requires : goal.encode_groups-requires
 encode_groups-requires c =
-    let s = c.before.before.before.before.args.bytes.now in
-    let n = length-take-le (length s / 3 * 3) s (omega arith) in
-    (c.before.before.before.before.requires.0, omega (arith, n), omega (arith, n, encoded_length_lem (length s), encoded_length_lem (length (take (length s / 3 * 3) s))))
+    let n = length-take-le (length c.args.bytes.now / 3 * 3) c.args.bytes.now (omega arith) in
+    (c.requires.0, omega (arith, n), omega (arith, n, encoded_length_lem (length c.args.bytes.now), encoded_length_lem (length (take (length c.args.bytes.now / 3 * 3) c.args.bytes.now))))
 
 pub encode_rest-requires : goal.encode_rest-requires
 encode_rest-requires c =
-    let e = c.before.before.before.before.before.before.before.before.before in
-    let s = e.args.bytes.now in
-    let f = rest_fits s c.encode_groups.new.1.1.0 (omega (arith, c.encode_groups.auto)) in
-    (e.requires.0, f.0, f.1)
+    let f = rest_fits c.args.bytes.now c.encode_groups.new.out (omega (arith, c.encode_groups.auto)) in
+    (c.requires.0, f.0, f.1)
 
 pub returns : goal.returns
 returns c =
-    let a = e.before.before.before.before.before.args in
-    let n = length a.bytes.now / 3 in
-    then_rest encode_grouping a.bytes.now a.out.now (n * 3) (n * 4) (omega arith) (omega arith) (omega arith) c.encode_groups.new.1.1.0 c.encode_rest.new.1.1.0 c.encode_groups.ensures c.encode_rest.ensures
+    let n = length c.args.bytes.now / 3 in
+    then_rest encode_grouping c.args.bytes.now c.args.out.now (n * 3) (n * 4) (omega arith) (omega arith) (omega arith) c.encode_groups.new.out c.encode_rest.new.out c.encode_groups.ensures c.encode_rest.ensures

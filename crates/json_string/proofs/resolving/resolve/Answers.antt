@@ -7,4 +7,4 @@ returns-in-At c = resolves_all _ _ _ _ _ (written _ _ _ _ _ _ _ c.write.ensures 
 
 pub returns-in-Bad : goal.returns-in-Bad
 returns-in-Bad c =
-    resolves_none _ _ _ _ _ (written _ _ _ _ _ _ _ c.write.ensures c.in-Bad.is) c.write.auto.1.1.0 c.zero.ensures
+    resolves_none _ _ _ _ _ (written _ _ _ _ _ _ _ c.write.ensures c.in-Bad.is) c.write.auto.out c.zero.ensures

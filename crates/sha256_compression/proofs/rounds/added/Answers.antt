@@ -13,7 +13,7 @@ pub loop-i-preserved : goal.loop-i-preserved
 loop-i-preserved c = (
   omega arith,
   simp length-set c.loop-i.invariant.1,
-  one_sum sha_256 c.args.t1 c.args.t2 c.loop-i.r c.loop-i.i c.wrapping_add_u32.result (omega arith) c.loop-i.invariant.2 c.wrapping_add_u32.ensures,
+  one_sum sha_256 c.args.v c.args.h c.loop-i.r c.loop-i.i c.wrapping_add_u32.result (omega arith) c.loop-i.invariant.2 c.wrapping_add_u32.ensures.value,
 )
 
 pub returns : goal.returns

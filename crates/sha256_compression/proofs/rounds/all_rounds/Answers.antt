@@ -8,7 +8,7 @@ use Rattle.sha256_compression.proofs.rounds.all_rounds.Goals as goal
 
 pub loop-t-init : goal.loop-t-init
 unfolding rounds
-loop-t-init c = (omega arith, omega arith, omega arith, c.Block-words.ensures, refl)
+loop-t-init c = (omega arith, omega arith, omega arith, c.block_words-w.ensures, refl)
 
 pub loop-t-preserved : goal.loop-t-preserved
 loop-t-preserved c =
