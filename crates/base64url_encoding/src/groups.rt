@@ -7,7 +7,7 @@ ghost use Rattle.base64url_rules.specs.Tables.{characters};
 use crate::characters::character_of;
 
 // The four characters of three bytes.
-#[derive(Drop)]
+#[derive(Clone, Copy)]
 pub(crate) struct Quad {
     pub(crate) a: u8,
     pub(crate) b: u8,

@@ -4,7 +4,7 @@
 
 // The answer of decoding: how many bytes were written; the place of the fault in a text that is not strict; or a strict text
 // whose bytes the buffer has no room for.
-#[derive(Drop)]
+#[derive(Clone, Copy)]
 pub enum Decoded {
     Bytes(usize),
     Fault(usize),
@@ -12,7 +12,7 @@ pub enum Decoded {
 }
 
 // The answer of encoding: how many characters were written, or a buffer that has no room for them.
-#[derive(Drop)]
+#[derive(Clone, Copy)]
 pub enum Encoded {
     Text(usize),
     Short,

@@ -7,7 +7,7 @@ use crate::wide::wide_word;
 use crate::words::{Words, both, word_of};
 
 // Whether four characters are all of the alphabet, and if so their three bytes.
-#[derive(Drop)]
+#[derive(Clone, Copy)]
 pub struct Group {
     pub ok: bool,
     pub x: u8,

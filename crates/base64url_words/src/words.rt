@@ -17,7 +17,7 @@ pub(crate) fn word_of(table: &[i8; 256], a: u8, b: u8, c: u8, d: u8) -> i32
 }
 
 // Two numbers, if neither is below 0.
-#[derive(Drop)]
+#[derive(Clone, Copy)]
 pub struct Words {
     pub ok: bool,
     pub x: u32,

@@ -8,7 +8,7 @@ ghost use Rattle.decimal.specs.Magnitude.{magnitude_of};
 pub use decimal_rules::Integer;
 
 // The value of digits that is not too great.
-#[derive(Drop)]
+#[derive(Clone, Copy)]
 enum Magnitude {
     Of(u64),
     Beyond,

@@ -2,7 +2,7 @@
 #![tactic(auto)]
 
 // The integer that a text writes, where i64 holds it; or none.
-#[derive(Drop)]
+#[derive(Clone, Copy)]
 pub enum Integer {
     Is(i64),
     No,

@@ -6,7 +6,7 @@ ghost use Rattle.jose_facts.specs.Known.{name, slot};
 use json_members::{Entry, Slot, entry_at, taken};
 use json_string::End;
 
-#[derive(Drop)]
+#[derive(Clone, Copy)]
 pub struct Known {
     pub alg: Slot,
     pub kid: Slot,

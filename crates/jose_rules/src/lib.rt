@@ -6,7 +6,7 @@
 // of the wrong kind.
 
 // `alg`: HS256, or another name.
-#[derive(Drop)]
+#[derive(Clone, Copy)]
 pub enum Alg {
     Absent,
     Wrong,
@@ -15,7 +15,7 @@ pub enum Alg {
 }
 
 // `kid`: the index of the key that has this id, or that no key has it.
-#[derive(Drop)]
+#[derive(Clone, Copy)]
 pub enum Kid {
     Absent,
     Wrong,
@@ -24,7 +24,7 @@ pub enum Kid {
 }
 
 // `typ` and `cty`.
-#[derive(Drop)]
+#[derive(Clone, Copy)]
 pub enum Text {
     Absent,
     Wrong,
@@ -32,7 +32,7 @@ pub enum Text {
 }
 
 // `crit`: whether its list is empty, has a name twice or a name that may not be listed; and whether it lists `fmt`.
-#[derive(Drop)]
+#[derive(Clone, Copy)]
 pub enum Crit {
     Absent,
     Wrong,
@@ -40,14 +40,14 @@ pub enum Crit {
 }
 
 // `fmt`: its number.
-#[derive(Drop)]
+#[derive(Clone, Copy)]
 pub enum Fmt {
     Absent,
     Wrong,
     Is(i64),
 }
 
-#[derive(Drop)]
+#[derive(Clone, Copy)]
 pub struct Facts {
     pub alg: Alg,
     pub kid: Kid,
@@ -58,14 +58,14 @@ pub struct Facts {
 }
 
 // What the facts decide: the number of the first rule that refuses, or the key's index, whether `kid` is there, and the format.
-#[derive(Drop)]
+#[derive(Clone, Copy)]
 pub enum Verdict {
     Refused(u8),
     Takes(usize, bool, u8),
 }
 
 // A part of a header: the place of its first byte, and how many bytes it has.
-#[derive(Drop)]
+#[derive(Clone, Copy)]
 pub struct Part {
     pub start: usize,
     pub length: usize,
@@ -73,7 +73,7 @@ pub struct Part {
 
 // What a header decides: the key's index, whether `kid` is there, the format, and the raw texts of `typ` and `cty` between their
 // quotation marks (0 and 0 where they are absent).
-#[derive(Drop)]
+#[derive(Clone, Copy)]
 pub struct Choice {
     pub key_index: usize,
     pub kid_present: bool,
@@ -83,7 +83,7 @@ pub struct Choice {
 }
 
 // The number of the first rule that refuses the header, or what it decides.
-#[derive(Drop)]
+#[derive(Clone, Copy)]
 pub enum Decision {
     Refused(u8),
     Chosen(Choice),

@@ -11,7 +11,7 @@ pub use classes::{between, is_unescaped1};
 pub use utf8::{Octets, octets_of};
 
 // What stands at a place: a character's code point and the place after it, or no character.
-#[derive(Drop)]
+#[derive(Clone, Copy)]
 pub enum Scan {
     Code(u32, usize),
     Wrong,

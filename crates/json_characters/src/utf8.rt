@@ -68,7 +68,7 @@ pub(crate) fn form(s: &[u8], at: usize, b: u8) -> Scan
 }
 
 // The octets of a code point: the first `count` of `bytes`.
-#[derive(Drop)]
+#[derive(Clone, Copy)]
 pub struct Octets {
     pub count: usize,
     pub bytes: [u8; 4],

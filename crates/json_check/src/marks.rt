@@ -8,7 +8,7 @@ use json_string::{End, string_end};
 use json_tokens::skip_ws;
 
 // The next mark, and the place after it: a brace, or a name by the place of its first character; or nothing is left.
-#[derive(Drop)]
+#[derive(Clone, Copy)]
 pub enum Mark {
     Opens(usize),
     Closes(usize),

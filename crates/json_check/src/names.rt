@@ -7,7 +7,7 @@ use crate::marks::{Mark, next_mark};
 use json_string::{End, fingerprint, same_by_fingerprint};
 
 // What a pass found: two equal names; or none is equal to one that it kept, and a next pass begins where it had no more room, if it hadn't.
-#[derive(Drop)]
+#[derive(Clone, Copy)]
 pub enum Search {
     Twice,
     Past(End),

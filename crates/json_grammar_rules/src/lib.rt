@@ -2,7 +2,7 @@
 #![tactic(auto)]
 
 // The seven kinds of value.
-#[derive(Drop)]
+#[derive(Clone, Copy)]
 pub enum Kind {
     String,
     Number,

@@ -10,14 +10,14 @@ ghost use Rattle.json_header_reader.specs.Counting.{ended_at, count_of};
 use answers::{DONE, NO_SUCH_MEMBER};
 use json_header::Member;
 
-#[derive(Drop)]
+#[derive(Clone, Copy)]
 pub struct HeaderReader<'a> {
     pub header: &'a [u8],
     pub at: usize,
 }
 
 // What a header answers, and the number of members of its top object, 0 if it is refused.
-#[derive(Drop)]
+#[derive(Clone, Copy)]
 pub struct Counted {
     pub answer: u8,
     pub members: usize,

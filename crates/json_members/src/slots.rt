@@ -8,7 +8,7 @@ use json_rules::Place;
 use json_string::text_is;
 
 // What is known of a member: the kind and the place of its value, or that there is no such member.
-#[derive(Drop)]
+#[derive(Clone, Copy)]
 pub enum Slot {
     Absent,
     Is(Kind, Place),

@@ -12,7 +12,7 @@ use json_string::{End, string_end};
 use json_tokens::skip_ws;
 
 // A member: the places of its name and of its value, the value's kind, and where the next member begins, if there is one.
-#[derive(Drop)]
+#[derive(Clone, Copy)]
 pub struct Entry {
     pub name: Place,
     pub value: Place,
@@ -21,7 +21,7 @@ pub struct Entry {
 }
 
 // An element of an array, likewise.
-#[derive(Drop)]
+#[derive(Clone, Copy)]
 pub struct Item {
     pub value: Place,
     pub kind: Kind,

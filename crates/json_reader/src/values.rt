@@ -53,7 +53,7 @@ pub fn bare(s: &[u8], at: usize, depth: usize) -> End
 }
 
 // A part of a text, from its first byte to the place after its last; or none.
-#[derive(Drop)]
+#[derive(Clone, Copy)]
 pub enum Span {
     Between(usize, usize),
     Nowhere,

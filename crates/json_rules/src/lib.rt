@@ -8,14 +8,14 @@ pub const LONGEST: usize = 4096;
 pub const DEEPEST: usize = 16;
 
 // A part of a text: start is the place of its first byte, end the place after its last.
-#[derive(Drop)]
+#[derive(Clone, Copy)]
 pub struct Place {
     pub start: usize,
     pub end: usize,
 }
 
 // The member reader's answer: a member of the top object, by the kind of its value, as the place of its name and the place of its value; or the refusal's number.
-#[derive(Drop)]
+#[derive(Clone, Copy)]
 pub enum Member {
     String(Place, Place),
     Number(Place, Place),

@@ -7,7 +7,7 @@ use jose_rules::Choice;
 pub const TOKEN_MOST: usize = 32768;
 
 // What a token that is accepted holds: the lengths of its header and payload, and what its header decides.
-#[derive(Drop)]
+#[derive(Clone, Copy)]
 pub struct Record {
     pub header_length: usize,
     pub payload_length: usize,
@@ -15,14 +15,14 @@ pub struct Record {
 }
 
 // The answer, and what the token holds; zeros where it is refused.
-#[derive(Drop)]
+#[derive(Clone, Copy)]
 pub struct Verified {
     pub answer: u8,
     pub details: Record,
 }
 
 // The answer, and the token's length; 0 where none is made.
-#[derive(Drop)]
+#[derive(Clone, Copy)]
 pub struct Signed {
     pub answer: u8,
     pub length: usize,

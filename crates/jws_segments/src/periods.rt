@@ -4,7 +4,7 @@ ghost use Rattle.jws_rules.specs.Segments.{front, periods};
 ghost use Rattle.jws_segments.specs.Split.{split_of};
 
 // The places of the two periods, or that there aren't exactly two.
-#[derive(Drop)]
+#[derive(Clone, Copy)]
 pub enum Cut {
     At(usize, usize),
     Not,

@@ -6,7 +6,7 @@ ghost use Rattle.jws_segments.specs.Opening.{segment_of, decoded_out};
 use base64url_decoding::{Decoded, decode_with, decoded_len};
 
 // Whether a segment is strict, and how many bytes it stands for.
-#[derive(Drop)]
+#[derive(Clone, Copy)]
 pub struct Segment {
     pub strict: bool,
     pub length: usize,

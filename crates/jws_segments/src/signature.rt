@@ -7,7 +7,7 @@ use crate::equal::equal;
 use crate::segment::decode_segment;
 
 // Whether the segment is strict, whether it stands for 32 bytes, and its bytes, then zeros; zeros where it isn't strict, or longer.
-#[derive(Drop)]
+#[derive(Clone, Copy)]
 pub struct Signature {
     pub strict: bool,
     pub whole: bool,

@@ -6,7 +6,7 @@ ghost use Rattle.jws_words.specs.Words.{member_words};
 use answers::DONE;
 use json_rules::{Member, Place};
 
-#[derive(Drop)]
+#[derive(Clone, Copy)]
 pub struct Answer {
     pub number: u8,
     pub words: [u64; 5],

@@ -3,7 +3,7 @@
 #![tactic(auto)]
 
 // The index of a key.
-#[derive(Drop)]
+#[derive(Clone, Copy)]
 pub enum Found {
     At(usize),
     Nothing,

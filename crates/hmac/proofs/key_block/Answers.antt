@@ -1,0 +1,13 @@
+-- `hmac::key_block` meets its contract.
+use mathlib.Core.Path.{◌∙◌}
+use Rattle.sha2_rules.specs.Hash.{SHA256}
+use Rattle.hmac.proofs.KeyLaws.{short_key, long_key}
+use Rattle.hmac.proofs.key_block.Goals as goal
+
+pub returns-then-key-gt64 : goal.returns-then-key-gt64
+returns-then-key-gt64 c =
+    c.copy_at.ensures ∙ long_key SHA256 64 c.args.key.now c.sha256-h.result c.sha256-h.ensures c.if-key-gt64.true
+
+pub returns : goal.returns
+returns c =
+    c.copy_at-2.ensures ∙ short_key SHA256 64 c.args.key.now c.if-key-gt64.false

@@ -1,0 +1,23 @@
+-- `meets` meets its contract.
+use mathlib.Core.Path.{sym, ◌∙◌}
+use Prim.Native.Nat.{◌-◌, ◌≤◌}
+use native.Mathlib.Omega.{arith}
+use lib.ListN.{length}
+use Rattle.json_check.proofs.MarkLaws.{name_told, opens_told, closes_told, nothing_told}
+use Rattle.json_check.proofs.StackLaws.{Without}
+use Rattle.json_check.proofs.StackLaws as stack
+use Rattle.json_check.proofs.NameLaws.{Meeting}
+use Rattle.json_check.proofs.NameLaws as law
+use Rattle.json_check.proofs.names.meets.Given as goal
+
+abbrev pub invariant-loop-i : goal.invariant-loop-i
+invariant-loop-i l = (l.base ≤ l.i) × (l.i ≤ l.count) × Without l.s l.names l.prints l.base l.i l.p
+
+abbrev pub decreases-loop-i : goal.decreases-loop-i
+decreases-loop-i l = l.count - l.i
+
+abbrev pub invariant-pairs : goal.invariant-pairs
+invariant-pairs l = (l.count ≤ 64) × Meeting l.s l.names l.prints l.top 64 l.from l.base l.count l.inner l.at
+
+abbrev pub decreases-pairs : goal.decreases-pairs
+decreases-pairs l = length l.s - l.at

@@ -1,0 +1,15 @@
+-- `sha256::absorb_blocks` meets its contract.
+use mathlib.Core.Path.{◌≡◌, refl}
+use Prim.Native.Nat.{suc, ◌+◌, ◌-◌, ◌/◌, ◌%◌, ◌≤◌}
+use native.Mathlib.Omega.{arith}
+use lib.ListN.{length}
+use Rattle.sha2_rules.specs.Parameters.{sha_256}
+use Rattle.sha2_rules.specs.Hash.{hash_value}
+use Rattle.sha2_rules.specs.ValueLaws.{one_block}
+use Rattle.sha256.proofs.absorb_blocks.Given as goal
+
+abbrev pub invariant-loop-at : goal.invariant-loop-at
+invariant-loop-at l = (l.at ≤ length l.m) × (l.at % 64 ≡ 0) × (l.v ≡ hash_value sha_256 l.initial.v l.m (l.at / 64))
+
+abbrev pub decreases-loop-at : goal.decreases-loop-at
+decreases-loop-at l = length l.m - l.at
