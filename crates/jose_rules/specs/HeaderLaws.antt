@@ -66,6 +66,7 @@ raw_text_lem h n (lcons m ms) = go (same (name_of m) n) (decides_same (name_of m
 
 value_has : (h n : List ℕ) (ms : LMembers) (p : Part) → ValueAt h n ms p → (v : Value) × Has n v (plain_members ms)
 unfolding plain_members
+value_has h n lnil p x = elim x [ ]
 value_has h n (lcons (named f t m v) ms) p (inl w) = (plain_item v, inl (w.0, refl))
 value_has h n (lcons (named f t m v) ms) p (inr w) = let x = value_has h n ms p w in (x.0, inr x.1)
 
