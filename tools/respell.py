@@ -24,7 +24,7 @@ FORMS = {"abbrev", "unfoldable", "pub", "data", "record", "use", "module", "mutu
 
 
 def snake(name):
-    return re.sub(r"(?<=[a-z0-9])[A-Z](?![A-Z0-9])|(?<=[a-z0-9])[A-Z](?=[A-Z0-9])", lambda m: "_" + m[0].lower(), name).replace("-", "_")
+    return re.sub(r"(?<=[a-z0-9])[A-Z]+[0-9]*", lambda m: "_" + m[0].lower(), name).replace("-", "_")
 
 
 def read(path):

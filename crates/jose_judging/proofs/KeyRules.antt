@@ -7,7 +7,7 @@ use Prim.Native.Nat.{ℕ}
 use lib.IntN.{ℤ, pos, nat_abs}
 use Rattle.common.specs.First.{first}
 use Rattle.common.specs.Options.{or_else}
-use Rattle.keytable_rules.specs.Key.{Key, key, allows_hS256}
+use Rattle.keytable_rules.specs.Key.{Key, key, allows_hs256}
 use Rattle.jose_rules.specs.declared.Facts.{Facts}
 use Rattle.jose_rules.specs.declared.Verdict.{Verdict}
 use Rattle.jose_rules.specs.Facts.{kid_there, chosen_key, format_by, lacking, key_tests, verdict_by}
@@ -19,11 +19,11 @@ module _ (f : Facts) (ks : List Key) where
   key_12 e = rw (← e)
 
   module _ {i : ℕ} (e : some i ≡ chosen_key f.kid) where
-    pub key_13 : allows_hS256 (key ks i) ≡ false → Verdict.Refused 13 ≡ key_verdict f ks
+    pub key_13 : allows_hs256 (key ks i) ≡ false → Verdict.Refused 13 ≡ key_verdict f ks
     unfolding key_verdict
     key_13 a = rw (← e, a)
 
-    module _ (a : allows_hS256 (key ks i) ≡ true) {z : ℤ} (g : format_by f.fmt ≡ some z) where
+    module _ (a : allows_hs256 (key ks i) ≡ true) {z : ℤ} (g : format_by f.fmt ≡ some z) where
       pub key_14 : lacking (key ks i) z ≡ true → Verdict.Refused 14 ≡ key_verdict f ks
       unfolding key_verdict
       key_14 l = rw (← e, a, g, l)

@@ -16,7 +16,7 @@ use Rattle.json_grammar_rules.specs.TwiceLaws.{decides_repeated}
 use Rattle.json_characters.specs.Utf8.{utf8}
 use Rattle.keytable_rules.specs.declared.Found.{Found}
 use Rattle.keytable_rules.specs.declared.Found.TheVariants.{At, Nothing}
-use Rattle.keytable_rules.specs.Key.{Key, key, Distinct, Named, find, allows_hS256, allows_format}
+use Rattle.keytable_rules.specs.Key.{Key, key, Distinct, Named, find, allows_hs256, allows_format}
 use Rattle.keytable_rules.specs.KeyLaws.{found, not_found, find_is}
 use Rattle.common.specs.Decided.{when_false, decided, decides_false, test_false}
 use Rattle.common.specs.Same.{same}
@@ -282,7 +282,7 @@ module _ (ms : Members) (unique : repeated (names ms) ≡ false) where
         by λ _. decides_10 us q.keys
         by λ _. decides_11
         by λ _. decides_none (only_chosen q.keys distinct)
-        by λ _. decides_chosen q.keys distinct (λ k. decides_false (allows_hS256 k))
+        by λ _. decides_chosen q.keys distinct (λ k. decides_false (allows_hs256 k))
         by λ _. decides_chosen q.keys distinct (λ k. decides_some only_format (decides_lacking k))
         by λ _. done
 

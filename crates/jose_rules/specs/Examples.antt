@@ -7,7 +7,7 @@ use Rattle.json_grammar_rules.specs.Value.{Value, Values, Members, string_v, num
 use Rattle.json_characters.specs.Utf8.{utf8, octets}
 use Rattle.decimal_rules.specs.Integer.{integer_of, all_digits, after}
 use Rattle.common.specs.Same.{same}
-use Rattle.keytable_rules.specs.Key.{Key, find, allows_hS256, allows_format}
+use Rattle.keytable_rules.specs.Key.{Key, find, allows_hs256, allows_format}
 use Rattle.common.specs.Ascii.{ascii}
 use Rattle.jose_rules.specs.Names.{alg, kid, typ, cty, crit, fmt, HS256}
 use Rattle.jose_rules.specs.Members.{strings_in}
@@ -83,7 +83,7 @@ pub examples :
     × Answers ("alg" ∶ text "HS256" then "kid" ∶ text "cellar 2" then mnil) (hs28 ∷ []) 14
     × Answers ("alg" ∶ text "HS256" then "kid" ∶ text "cellar 1" then "crit" ∶ array ("fmt" ∷ []) then "fmt" ∶ number "-0" then mnil) (hs1 ∷ []) 14
     × Answers ("alg" ∶ text "HS256" then "kid" ∶ text "cellar 1" then "crit" ∶ array ("fmt" ∷ []) then "fmt" ∶ number "9" then mnil) (hs1 ∷ []) 14
-unfolding ascii alg kid typ cty crit fmt HS256 utf8 octets within is_digit integer_of all_digits after same find allows_hS256 allows_format
+unfolding ascii alg kid typ cty crit fmt HS256 utf8 octets within is_digit integer_of all_digits after same find allows_hs256 allows_format
     strings_in lookup names_from alg_fact kid_fact text_fact crit_fact fmt_fact facts_of missing_or_wrong critical_broken lacking choice_by
 examples = (
   (refl, refl),

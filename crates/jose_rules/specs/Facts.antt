@@ -10,7 +10,7 @@ use Rattle.json_grammar_rules.specs.Value.{Value, Members, mnil, mcons}
 use Rattle.json_characters.specs.Utf8.{utf8}
 use Rattle.keytable_rules.specs.declared.Found.{Found}
 use Rattle.keytable_rules.specs.declared.Found.TheVariants.{At, Nothing}
-use Rattle.keytable_rules.specs.Key.{Key, key, find, allows_hS256, allows_format}
+use Rattle.keytable_rules.specs.Key.{Key, key, find, allows_hs256, allows_format}
 use Rattle.jose_rules.specs.declared.Alg.{Alg}
 use Rattle.jose_rules.specs.declared.Kid.{Kid}
 use Rattle.jose_rules.specs.declared.Text.{Text}
@@ -234,7 +234,7 @@ of_chosen f ks p = given (λ i. p (key ks i)) (chosen_key f.kid)
 abbrev pub key_tests : Facts → List Key → List Test
 key_tests f ks =
     12 when absent (chosen_key f.kid)
-    ∷ 13 when of_chosen f ks (λ k. not (allows_hS256 k))
+    ∷ 13 when of_chosen f ks (λ k. not (allows_hs256 k))
     ∷ 14 when of_chosen f ks (λ k. given (lacking k) (format_by f.fmt))
     ∷ []
 

@@ -10,7 +10,7 @@ use Rattle.json_grammar_rules.specs.Places.{kind_of, pos, margin, placed}
 use Rattle.json_grammar_rules.specs.Reader.{skip, is_unescaped1, char_lead, escape_lead_of, read_char, read_chars, value_lead, past_number, read_value, read}
 use Rattle.json_characters.specs.Utf8.{utf8, octets}
 use Rattle.decimal_rules.specs.Integer.{integer_of, all_digits, after}
-use Rattle.keytable_rules.specs.Key.{Key, find, allows_hS256, allows_format}
+use Rattle.keytable_rules.specs.Key.{Key, find, allows_hs256, allows_format}
 use Rattle.jose_rules.specs.declared.Choice.{Choice}
 use Rattle.jose_rules.specs.Names.{alg, kid, typ, cty, crit, fmt, HS256}
 use Rattle.jose_rules.specs.Members.{strings_in}
@@ -43,7 +43,7 @@ its_choice = record { key_index = 1; kid_present = true; format = 3; typ = nowhe
 
 pub second_key : (first (jose_tests header (record { keys = pair })) ≡ 0) × (header_choice header pair ≡ its_choice)
 unfolding missing_or_wrong critical_broken lacking header_choice raw_text choice_by facts_of names_from alg_fact kid_fact text_fact crit_fact fmt_fact lookup strings_in integer_of all_digits after
-    find allows_hS256 allows_format ascii alg kid typ cty crit fmt HS256 utf8 octets same among repeated names twice plain plain_members
+    find allows_hs256 allows_format ascii alg kid typ cty crit fmt HS256 utf8 octets same among repeated names twice plain plain_members
     read read_value read_chars read_char char_lead value_lead skip is_unescaped1 past_number within is_digit is_digit19 is_e is_ws
 second_key = (refl, refl)
 
@@ -66,7 +66,7 @@ pub by_escapes : (first (jose_tests by_small (record { keys = accented })) ≡ 0
     × (first (jose_tests by_capital (record { keys = accented })) ≡ 0) × (header_choice by_capital accented ≡ header_choice by_small accented)
     × (first (jose_tests another_name (record { keys = accented })) ≡ 9)
 unfolding missing_or_wrong critical_broken lacking header_choice raw_text choice_by facts_of names_from alg_fact kid_fact text_fact crit_fact fmt_fact lookup strings_in integer_of all_digits after
-    find allows_hS256 allows_format ascii alg kid typ cty crit fmt HS256 utf8 octets same among repeated names twice plain plain_members
+    find allows_hs256 allows_format ascii alg kid typ cty crit fmt HS256 utf8 octets same among repeated names twice plain plain_members
     read read_value read_chars read_char char_lead escape_lead_of value_lead skip is_unescaped1 past_number within is_digit is_digit19 is_e is_ws is_hex hex_val all_hex hex4 is_high is_low
 by_escapes = (refl, refl, refl, refl, refl)
 
@@ -90,7 +90,7 @@ blank (suc n) = blank n
 
 pub first_key : (n : ℕ) → (first (jose_tests (naming n) (record { keys = single 65 })) ≡ 0) × (header_choice (naming n) (single 65) ≡ first_choice)
 unfolding missing_or_wrong critical_broken lacking header_choice raw_text choice_by facts_of alg_fact kid_fact text_fact crit_fact fmt_fact lookup
-    find allows_hS256 allows_format ascii alg kid typ cty crit fmt HS256 utf8 octets same among repeated names twice plain plain_members
+    find allows_hs256 allows_format ascii alg kid typ cty crit fmt HS256 utf8 octets same among repeated names twice plain plain_members
     read read_value read_chars read_char char_lead value_lead skip is_unescaped1 within is_ws
 first_key n = (rw (blank n), rw (blank n))
 

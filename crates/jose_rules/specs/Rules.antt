@@ -5,7 +5,7 @@ use Rattle.common.specs.First.{Rule, ◌on◌, Decides}
 use Rattle.json_grammar_rules.specs.Value.{Value, Members}
 use Rattle.json_grammar_rules.specs.Twice.{Repeated}
 use Rattle.json_characters.specs.Utf8.{utf8}
-use Rattle.keytable_rules.specs.Key.{Key, key, Named, allows_hS256, allows_format}
+use Rattle.keytable_rules.specs.Key.{Key, key, Named, allows_hs256, allows_format}
 use Rattle.keytable_rules.specs.Table.{keys}
 use Rattle.jose_rules.specs.declared.Choice.{Choice}
 use Rattle.jose_rules.specs.Names.{alg, kid, typ, cty, crit, fmt, extensions, HS256}
@@ -79,7 +79,7 @@ key_rules ms q =
     -- "`kid` is missing, or no key has this id"
     12 on ((i : ℕ) → Chosen ms q.keys i → ⊥)
     -- "the key doesn't allow HS256"
-    ∷ 13 on ChosenKey ms q.keys (λ k. allows_hS256 k ≡ false)
+    ∷ 13 on ChosenKey ms q.keys (λ k. allows_hs256 k ≡ false)
     -- "the key doesn't allow the format, or there is no such format"
     ∷ 14 on ChosenKey ms q.keys (λ k. (z : ℤ) × Format ms z × Lacking k z)
     ∷ []

@@ -3,7 +3,7 @@
 #![tactic(auto)]
 
 ghost use Rattle.std.specs.Prelude.{◌≡◌, false, ◌+◌, ◌≤◌, ◌<◌, length, get_or};
-ghost use Rattle.keytable_rules.specs.Key.{key, allows_hS256, allows_format, find};
+ghost use Rattle.keytable_rules.specs.Key.{key, allows_hs256, allows_format, find};
 ghost use Rattle.keytable_rules.specs.Table.{entry_size, entry_place, bad_table, keys};
 
 use common::number2_at;
@@ -45,7 +45,7 @@ fn entry_byte(table: &[u8], i: usize, k: usize) -> u8
 // Whether key i allows HS256. Rules out a look at the formats, and the bit turned round.
 pub fn allows_hs256(table: &[u8], i: usize) -> bool
     requires { (bad_table table.now ≡ false) × (i < length (keys table.now)) }
-    ensures { result ≡ allows_hS256 (key (keys table.now) i) }
+    ensures { result ≡ allows_hs256 (key (keys table.now) i) }
 {
     entry_byte(table, i, 8) % 2 == 1
 }

@@ -4,7 +4,7 @@ use Rattle.std.proofs.Common.{arith}
 use Rattle.std.proofs.lemmas.List.{length-replicate}
 use Rattle.keytable_rules.specs.declared.Found.TheVariants.{At, Nothing}
 use Rattle.common.specs.Same.{same}
-use Rattle.keytable_rules.specs.Key.{Key, find, allows_hS256, allows_format}
+use Rattle.keytable_rules.specs.Key.{Key, find, allows_hs256, allows_format}
 use Rattle.keytable_rules.specs.Table.{Wellformed, bad_table, keys, below, listed}
 
 -- the first eight bytes, for numbers below 256
@@ -93,8 +93,8 @@ pub record Examples : Type 0 where
   pub second : find (65 ∷ 66 ∷ 67 ∷ []) (keys (two 32 2 34 3)) ≡ At 1
   pub neither : find (65 ∷ []) (keys (two 32 2 34 3)) ≡ Nothing
   -- HS256 by bit 0 of the algorithms; formats 1 and 3 by bits 0 and 2 of the formats, and not 2 or 4; format 8 by bit 7
-  pub hs256 : allows_hS256 (allowing 1 0) ≡ true
-  pub no_hs256 : allows_hS256 (allowing 0 1) ≡ false
+  pub hs256 : allows_hs256 (allowing 1 0) ≡ true
+  pub no_hs256 : allows_hs256 (allowing 0 1) ≡ false
   pub format_1 : allows_format (allowing 0 5) 1 ≡ true
   pub format_2 : allows_format (allowing 0 5) 2 ≡ false
   pub format_3 : allows_format (allowing 0 5) 3 ≡ true
@@ -107,7 +107,7 @@ pub record Examples : Type 0 where
   pub bytes_8193 : Wellformed (blank 8185) → ⊥
 
 pub examples : Examples
-unfolding bad_table keys below listed same find allows_hS256 allows_format entries_from up_from
+unfolding bad_table keys below listed same find allows_hs256 allows_format entries_from up_from
 examples = record {
   empty = refl;
   no_keys = refl;

@@ -15,8 +15,8 @@ abbrev pub bit : ℕ → ℕ → Bool
 bit x b = eqb (x / 2 ^ b % 2) 1
 
 -- algorithms: "1 allows HS256, 0 allows none"
-unfoldable pub allows_hS256 : Key → Bool
-allows_hS256 k = bit k.algorithms 0
+unfoldable pub allows_hs256 : Key → Bool
+allows_hs256 k = bit k.algorithms 0
 
 -- formats: "bit 0 allows format 1, and so on up to bit 7 for format 8"
 unfoldable pub allows_format : Key → ℕ → Bool

@@ -3,11 +3,11 @@ use mathlib.Core.Path.{sym, ap, ◌∙◌}
 use Prim.Native.Nat.{◌%◌}
 use native.Mathlib.Nat.{div-one}
 use lib.Dec.{eqb}
-use Rattle.keytable_rules.specs.Key.{allows_hS256}
+use Rattle.keytable_rules.specs.Key.{allows_hs256}
 use Rattle.keytable_rules.specs.TableLaws.{entry}
 use Rattle.keytable.proofs.allows_hs256.Goals as goal
 
 pub returns : goal.returns
-unfolding allows_hS256
+unfolding allows_hs256
 returns c =
-    ap (λ x. eqb (x % 2) 1) (c.entry_byte.ensures ∙ sym (div-one _)) ∙ ap allows_hS256 (sym (entry _ c.requires.0 _ c.requires.1).means)
+    ap (λ x. eqb (x % 2) 1) (c.entry_byte.ensures ∙ sym (div-one _)) ∙ ap allows_hs256 (sym (entry _ c.requires.0 _ c.requires.1).means)

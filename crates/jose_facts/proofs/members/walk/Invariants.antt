@@ -1,0 +1,14 @@
+-- `walk`. The loop's invariant: the slots show the members passed.
+use Prim.Native.Nat.{◌-◌, ◌<◌}
+use native.Mathlib.Omega.{arith}
+use lib.ListN.{length}
+use Rattle.json_members.specs.StepLaws.{entry_at_lem}
+use Rattle.json_members.specs.WalkLaws.{Walking, walk_start, walk_next, walk_end}
+use Rattle.jose_facts.specs.Known.{name, slot}
+use Rattle.jose_facts.proofs.members.walk.Given as goal
+
+abbrev pub invariant-loop-q : goal.invariant-loop-q
+invariant-loop-q l = (l.p < length l.text) × Walking name slot l.text l.from l.p l.depth l.known
+
+abbrev pub decreases-loop-q : goal.decreases-loop-q
+decreases-loop-q l = length l.text - l.p

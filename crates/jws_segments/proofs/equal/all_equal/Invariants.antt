@@ -1,0 +1,24 @@
+-- `all_equal` meets its contract: d is 0 as long as the bytes before i agree, and only so long.
+use mathlib.Core.Path.{◌≡◌, ap}
+use mathlib.Core.Logic.{◌↔◌}
+use mathlib.Core.List.{List}
+use Prim.Native.Nat.{ℕ, ◌≤◌, ◌<◌, ◌-◌}
+use native.Mathlib.Omega.{arith}
+use lib.Bits.{bit_or, bit_xor, or_add_and, and_le_l, and_le_r, xor_add_and, xor_self}
+use lib.ListN.{get_or}
+use lib.Seq.{ext_get_or}
+use borrow.Author.Count.{below_more}
+use Rattle.common.specs.Decided.{decided}
+use Rattle.common.specs.FirstLaws.{decides_eq, decides_iff}
+use Rattle.common.specs.SameLaws.{decides_same}
+use Rattle.jws_segments.proofs.equal.all_equal.Given as goal
+
+-- the bytes before i agree
+abbrev pub Alike : List ℕ → List ℕ → ℕ → Type 0
+Alike a b i = (k : ℕ) → k < i → get_or a k 0 ≡ get_or b k 0
+
+abbrev pub invariant-loop-i : goal.invariant-loop-i
+invariant-loop-i l = (l.i ≤ 32) × ((l.d ≡ 0) ↔ Alike l.a l.b l.i)
+
+abbrev pub decreases-loop-i : goal.decreases-loop-i
+decreases-loop-i l = 32 - l.i
