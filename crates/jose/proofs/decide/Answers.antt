@@ -5,13 +5,13 @@ use Rattle.jose.proofs.HeaderLaws.{decision_good, decision_long, decision_bad}
 use Rattle.jose.proofs.decide.Goals as goal
 
 pub returns-then-header-gt-LONGEST : goal.returns-then-header-gt-LONGEST
-returns-then-header-gt-LONGEST c = decision_long _ _ (not-true _ (sym c.before.before.good2.ensures ∙ c.if-good.true)) c.if-header-gt-LONGEST.true
+returns-then-header-gt-LONGEST c = decision_long _ _ (not-true _ (sym c.good.ensures ∙ c.if-good.true)) c.if-header-gt-LONGEST.true
 
 pub decide_with-requires : goal.decide_with-requires
-decide_with-requires c = not-true _ (sym c.before.before.good2.ensures ∙ c.if-good.true)
+decide_with-requires c = not-true _ (sym c.good.ensures ∙ c.if-good.true)
 
 pub returns-then-good : goal.returns-then-good
-returns-then-good c = c.decide_with.ensures ∙ decision_good _ _ (not-true _ (sym c.before.before.before.good2.ensures ∙ c.if-good.true)) c.if-header-gt-LONGEST.false
+returns-then-good c = c.decide_with.ensures ∙ decision_good _ _ (not-true _ (sym c.good.ensures ∙ c.if-good.true)) c.if-header-gt-LONGEST.false
 
 pub returns : goal.returns
-returns c = decision_bad _ _ (not-false _ (sym c.before.good2.ensures ∙ c.if-good.false))
+returns c = decision_bad _ _ (not-false _ (sym c.good.ensures ∙ c.if-good.false))
