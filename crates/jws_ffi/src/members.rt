@@ -10,8 +10,8 @@ use jws_words::answer_of;
 // Rules out the places of the name and of the value exchanged, and words that a refusal leaves as they were.
 #[unsafe(no_mangle)]
 pub extern "C" fn jws_member(header: &[u8], k: usize, member: &mut [u64; 5]) -> u8
-    ensures value { result ≡ number_of (member_of header.now k) }
-    ensures member_after { member.new ≡ member_words (member_of header.now k) }
+    ensures number { result ≡ number_of (member_of header.now k) }
+    ensures words { member.new ≡ member_words (member_of header.now k) }
 {
     let m = json_header::member(header, k);
     let a = answer_of(m);

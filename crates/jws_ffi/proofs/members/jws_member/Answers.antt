@@ -1,0 +1,5 @@
+-- `jws_member` meets its contract: the number and the words are those of the member reader's answer.
+use Rattle.jws_ffi.proofs.members.jws_member.Goals as goal
+
+pub returns : goal.returns
+returns c = let a = rw c.member-m.ensures at c.answer_of-a.ensures in record { number = a.0; words = a.1 }
