@@ -9,10 +9,10 @@ use lib.Seq.{sets, take-add, length-take-le}
 use borrow.Rule.Slice.PartMut.{put_mid}
 use Rattle.common.specs.Laid.{six_stores, laid_stores, part_from}
 use Rattle.base64url_rules.specs.Base64url.{decode, alphabetic, unused_bits, strict}
-use Rattle.base64url_rules.specs.GroupLaws.{strict_append}
-use Rattle.base64url_rules.specs.Grouping.{decode_grouping, part_more, then_rest}
-use Rattle.base64url_rules.specs.Listed.{as_entries}
-use Rattle.base64url_rules.specs.Tables.{entries}
+use Rattle.base64url_rules.proofs.GroupLaws.{strict_append}
+use Rattle.base64url_rules.proofs.Grouping.{decode_grouping, part_more, then_rest}
+use Rattle.base64url_rules.proofs.Listed.{as_entries}
+use Rattle.base64url_rules.proofs.Tables.{entries}
 use Rattle.base64url_words.specs.Words.{Grouped}
 use Rattle.base64url_decoding.specs.Writing.{Decodes}
 

@@ -6,14 +6,14 @@ use Prim.Native.Nat.{ℕ, ◌+◌, ◌*◌, ◌%◌, ◌≤◌}
 use native.Mathlib.Omega.{arith}
 use lib.Dec.{eqb}
 use lib.ListN.{length, get_or, set}
-use Rattle.common.specs.Decided.{decided, decides_by}
-use Rattle.common.specs.FirstLaws.{decides_eq}
+use Rattle.common.proofs.Decided.{decided, decides_by}
+use Rattle.common.proofs.FirstLaws.{decides_eq}
 use Rattle.common.specs.Laid.{laid_stores}
 use Rattle.common.specs.Ranges.{within}
 use Rattle.base64url_rules.specs.Alphabet.{value, in_alphabet}
 use Rattle.base64url_rules.specs.Base64url.{decode, alphabetic, unused_bits, strict, byte1, byte2, byte3}
-use Rattle.base64url_rules.specs.Listed.{as_entries}
-use Rattle.base64url_rules.specs.Tables.{entries}
+use Rattle.base64url_rules.proofs.Listed.{as_entries}
+use Rattle.base64url_rules.proofs.Tables.{entries}
 use Rattle.base64url_words.specs.Words.{Grouped}
 use Rattle.base64url_decoding.specs.Writing.{Decodes}
 use Rattle.base64url_decoding.proofs.DecodeLaws.{not_strict}

@@ -3,7 +3,7 @@ ghost use Rattle.std.specs.Prelude.{◌≡◌};
 ghost use Rattle.base64url_rules.specs.Base64url.{unused_bits};
 ghost use Rattle.base64url_rules.specs.Fault.{fault, first_outside};
 ghost use Rattle.base64url_rules.specs.Outcome.{refusal};
-ghost use Rattle.base64url_rules.specs.Tables.{values};
+ghost use Rattle.base64url_rules.proofs.Tables.{values};
 
 use crate::Decoded;
 use base64url_words::value_of;

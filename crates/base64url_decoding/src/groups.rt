@@ -1,7 +1,7 @@
 // Decoding a text into a buffer that has room for its bytes.
 ghost use Rattle.std.specs.Prelude.{◌≡◌, ◌<◌, ◌≤◌, ◌%◌, length};
 ghost use Rattle.base64url_rules.specs.Base64url.{decoded_length};
-ghost use Rattle.base64url_rules.specs.Tables.{values};
+ghost use Rattle.base64url_rules.proofs.Tables.{values};
 ghost use Rattle.base64url_words.specs.Words.{WideIfAny};
 ghost use Rattle.base64url_decoding.specs.Writing.{Decodes};
 

@@ -5,7 +5,7 @@
 ghost use Rattle.std.specs.Prelude.{◌≡◌, length};
 ghost use Rattle.base64url_rules.specs.Base64url.{decoded_length};
 ghost use Rattle.base64url_rules.specs.Outcome.{decoded_to, decoding};
-ghost use Rattle.base64url_rules.specs.Tables.{values};
+ghost use Rattle.base64url_rules.proofs.Tables.{values};
 
 mod groups; // groups.rt: a text into a buffer that has room for its bytes
 mod fault; // fault.rt: why a text is refused

@@ -7,9 +7,9 @@ use lib.ListN.{length, get_or, take, drop, set, length-drop}
 use Rattle.common.specs.Buffer.{laid}
 use Rattle.common.specs.Laid.{laid_stores, part_from}
 use Rattle.base64url_rules.specs.Base64url.{encode, encoded_length}
-use Rattle.base64url_rules.specs.LengthLaws.{encoded_length_lem}
-use Rattle.base64url_rules.specs.Listed.{as_entries}
-use Rattle.base64url_rules.specs.Tables.{entries}
+use Rattle.base64url_rules.proofs.LengthLaws.{encoded_length_lem}
+use Rattle.base64url_rules.proofs.Listed.{as_entries}
+use Rattle.base64url_rules.proofs.Tables.{entries}
 
 -- the rest is short, and fits where the whole does
 pub rest_fits : (s out : List ℕ) → encoded_length (length s) ≤ length out

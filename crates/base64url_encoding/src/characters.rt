@@ -1,7 +1,7 @@
 // The alphabet. A constant array is copied wherever it is named, so it is copied once, by a call, and lent from then on.
 ghost use Rattle.std.specs.Prelude.{◌≡◌, ◌<◌};
 ghost use Rattle.base64url_rules.specs.Alphabet.{character};
-ghost use Rattle.base64url_rules.specs.Tables.{characters};
+ghost use Rattle.base64url_rules.proofs.Tables.{characters};
 
 const CHARACTERS: [u8; 64] = *b"ABCDEFGHIJKLMNOPQRSTUVWXYZabcdefghijklmnopqrstuvwxyz0123456789-_";
 

@@ -2,7 +2,7 @@
 ghost use Rattle.std.specs.Prelude.{◌≡◌, [], ◌∷◌, ◌<◌, ◌≤◌, ◌%◌, length};
 ghost use Rattle.base64url_rules.specs.Base64url.{encode, encoded_length};
 ghost use Rattle.common.specs.Buffer.{laid};
-ghost use Rattle.base64url_rules.specs.Tables.{characters};
+ghost use Rattle.base64url_rules.proofs.Tables.{characters};
 
 use crate::characters::character_of;
 

@@ -5,7 +5,7 @@
 ghost use Rattle.std.specs.Prelude.{◌≡◌, length};
 ghost use Rattle.base64url_rules.specs.Base64url.{encoded_length};
 ghost use Rattle.base64url_rules.specs.Outcome.{encoded_to, encoding};
-ghost use Rattle.base64url_rules.specs.Tables.{characters};
+ghost use Rattle.base64url_rules.proofs.Tables.{characters};
 
 mod characters; // characters.rt: the characters of the values
 mod groups; // groups.rt: bytes into a buffer that has room for their text

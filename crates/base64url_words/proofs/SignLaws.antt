@@ -13,7 +13,7 @@ use mir.Val.{SFits, of_z, to_z}
 use mir.ValLaws.{to_z-of_z, to_z_pos}
 use Rattle.common.specs.Ranges.{within}
 use Rattle.base64url_rules.specs.Alphabet.{value, in_alphabet}
-use Rattle.base64url_rules.specs.Tables.{entries, agree, signed}
+use Rattle.base64url_rules.proofs.Tables.{entries, agree, signed}
 
 -- the bits of -1 and of -2
 pub outside_bits : (c : ℕ) → in_alphabet c ≡ false → (of_z w32 (signed c) ≡ 4294967295) ⊎ (of_z w32 (signed c) ≡ 4294967294)

@@ -16,8 +16,8 @@ use mir.Syntax.{w32}
 use mir.Val.{to_z}
 use mir.ValLaws.{Fits-wrap, of_z-to_z}
 use Rattle.base64url_rules.specs.Alphabet.{value, in_alphabet}
-use Rattle.base64url_rules.specs.Listed.{length_entries}
-use Rattle.base64url_rules.specs.Tables.{entries, entry, signed}
+use Rattle.base64url_rules.proofs.Listed.{length_entries}
+use Rattle.base64url_rules.proofs.Tables.{entries, entry, signed}
 use Rattle.base64url_words.specs.Words.{bits, shifted, word, raised, wide}
 use Rattle.base64url_words.proofs.SignLaws.{outside_bits}
 use Rattle.base64url_words.proofs.WordLaws.{word_fits}

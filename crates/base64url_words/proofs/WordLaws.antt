@@ -18,9 +18,9 @@ use mir.ValLaws.{Fits-or, Fits-wrap, of_z_fits, of_z-to_z}
 use Rattle.common.specs.Truth as Truth
 use Rattle.base64url_rules.specs.Alphabet.{value, in_alphabet}
 use Rattle.base64url_rules.specs.Base64url.{decode, alphabetic, strict, byte1, byte2, byte3}
-use Rattle.base64url_rules.specs.GroupLaws.{strict_groups, strict_append, decode_append}
-use Rattle.base64url_rules.specs.Listed.{as_entries}
-use Rattle.base64url_rules.specs.Tables.{entries, signed}
+use Rattle.base64url_rules.proofs.GroupLaws.{strict_groups, strict_append, decode_append}
+use Rattle.base64url_rules.proofs.Listed.{as_entries}
+use Rattle.base64url_rules.proofs.Tables.{entries, signed}
 use Rattle.base64url_words.specs.Words.{bits, shifted, word, bytes3, Grouped, Both}
 use Rattle.base64url_words.proofs.SignLaws.{outside_bits, fits_32, sign, not_negative}
 

@@ -4,7 +4,7 @@ use Rattle.std.specs.Int.Bits.{bit_or}
 use Rattle.std.specs.Int.{w32}
 use Rattle.std.proofs.Common.{of_z, to_z}
 use Rattle.base64url_rules.specs.Base64url.{strict, decode}
-use Rattle.base64url_rules.specs.Tables.{entries, signed}
+use Rattle.base64url_rules.proofs.Tables.{entries, signed}
 
 -- a number's 32 bits
 abbrev pub bits : ℤ → ℕ

@@ -1,6 +1,6 @@
 // One group of four characters to its bytes, and two groups to their words.
 ghost use Rattle.std.specs.Prelude.{◌≡◌, [], ◌∷◌, ◌++◌, length};
-ghost use Rattle.base64url_rules.specs.Tables.{values};
+ghost use Rattle.base64url_rules.proofs.Tables.{values};
 ghost use Rattle.base64url_words.specs.Words.{WideIfAny, bytes3, Grouped};
 
 use crate::wide::wide_word;

@@ -1,7 +1,7 @@
 // The table of values. A constant array is copied wherever it is named, so it is copied once, by a call, and lent from then on.
 ghost use Rattle.std.specs.Prelude.{◌≡◌};
 ghost use Rattle.base64url_rules.specs.Alphabet.{value};
-ghost use Rattle.base64url_rules.specs.Tables.{signed, values};
+ghost use Rattle.base64url_rules.proofs.Tables.{signed, values};
 
 // Outside the alphabet -1 and -2 stand in turn: a run of one number would be written in pieces that overlap, and take longer than rows of
 // sixteen.

@@ -1,6 +1,6 @@
 // The table for long texts: with each value also six bits up, two characters take no shift. It is made of the other table.
 ghost use Rattle.std.specs.Prelude.{◌≡◌};
-ghost use Rattle.base64url_rules.specs.Tables.{values};
+ghost use Rattle.base64url_rules.proofs.Tables.{values};
 ghost use Rattle.base64url_words.specs.Words.{bits, word, wide};
 
 use crate::values::signed_value;

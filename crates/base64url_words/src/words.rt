@@ -1,6 +1,6 @@
 // Four characters as one number: six bits of each, the first the highest. Where a character is outside the alphabet, the number is below 0.
 ghost use Rattle.std.specs.Prelude.{◌≡◌};
-ghost use Rattle.base64url_rules.specs.Tables.{values};
+ghost use Rattle.base64url_rules.proofs.Tables.{values};
 ghost use Rattle.base64url_words.specs.Words.{bits, word, Both};
 
 use crate::values::signed_value;

@@ -10,9 +10,6 @@ pub mod BufferLaws
 pub mod Laid
 pub mod Truth
 pub mod First
-pub mod FirstLaws
-pub mod Decided
 pub mod Same
-pub mod SameLaws
 pub mod Ascii
 pub mod Options

@@ -1,3 +1,2 @@
 -- An integer's decimal text: the definition, and examples.
 pub mod Integer
-pub mod Examples

@@ -2,7 +2,7 @@
 use Rattle.std.specs.Prelude.{◌≡◌, List, ℕ, length}
 use Rattle.common.specs.Bytes.{Bytes}
 use Rattle.sha2_rules.specs.Hash.{SHA256}
-use Rattle.sha2_rules.specs.DigestLaws.{length_SHA256, bytes_SHA256}
+use Rattle.sha2_rules.proofs.DigestLaws.{length_SHA256, bytes_SHA256}
 use Rattle.hmac.specs.Hmac.{hmac, HMACSHA256}
 
 module _ (hash : List ℕ → List ℕ) (block : ℕ) where

@@ -7,7 +7,7 @@ use Prim.Native.Nat.{ℕ, zero, suc, ◌-◌, ◌≤◌, ◌<◌}
 use lib.ListN.{length}
 use borrow.Author.Tests.{lt-ltb, le-ltb}
 use Rattle.common.specs.First.{first}
-use Rattle.common.specs.FirstLaws.{first_within, first_after}
+use Rattle.common.proofs.FirstLaws.{first_within, first_after}
 use Rattle.common.specs.Same.{same}
 use Rattle.json_grammar_rules.specs.Value.{LMembers, item, named, lnil, lcons}
 use Rattle.json_grammar_rules.specs.Places.{placed}
@@ -16,7 +16,7 @@ use Rattle.json_string.specs.declared.End.{End}
 use Rattle.json_rules.specs.declared.Place.{Place}
 use Rattle.json_rules.specs.Rules.{longest, deepest}
 use Rattle.json_rules.specs.Tests.{members_in, grammar_tests}
-use Rattle.json_rules.specs.AnswerLaws.{grammar_read}
+use Rattle.json_rules.proofs.AnswerLaws.{grammar_read}
 use Rattle.json_members.specs.declared.slots.Slot.{Slot}
 use Rattle.json_members.specs.declared.slots.Slot.TheVariants.{Absent, Is}
 use Rattle.json_members.specs.Members.{MembersFrom, TopMembers}

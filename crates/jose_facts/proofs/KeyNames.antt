@@ -17,9 +17,9 @@ use Rattle.json_string.specs.StringLaws.{name_resolved, name_resolved_to}
 use Rattle.keytable_rules.specs.declared.Found.{Found}
 use Rattle.keytable_rules.specs.declared.Found.TheVariants.{Nothing}
 use Rattle.keytable_rules.specs.Key.{none as no_key_lem, find}
-use Rattle.keytable_rules.specs.KeyLaws.{finds, finds_one}
+use Rattle.keytable_rules.proofs.KeyLaws.{finds, finds_one}
 use Rattle.keytable_rules.specs.Table.{bad_table, keys, id_most}
-use Rattle.keytable_rules.specs.GoodKeys.{keys_good}
+use Rattle.keytable_rules.proofs.GoodKeys.{keys_good}
 use Rattle.jose_facts.specs.Says.{KeyNamed}
 
 -- no id is as long

@@ -4,7 +4,7 @@ use mathlib.Core.Bool.{Bool, true, false, ◌||◌}
 use mathlib.Core.List.{List}
 use Prim.Native.Nat.{ℕ, zero, suc}
 use Rattle.common.specs.First.{first}
-use Rattle.common.specs.FirstLaws.{first_within, first_after, all_pass, passed}
+use Rattle.common.proofs.FirstLaws.{first_within, first_after, all_pass, passed}
 use Rattle.common.specs.Truth.{neither}
 use Rattle.keytable_rules.specs.Key.{Key}
 use Rattle.jose_rules.specs.declared.Facts.{Facts}

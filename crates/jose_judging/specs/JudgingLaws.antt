@@ -4,7 +4,7 @@ use Rattle.json_grammar_rules.specs.Value.{Members}
 use Rattle.keytable_rules.specs.Key.{Key}
 use Rattle.jose_rules.specs.declared.Facts.{Facts}
 use Rattle.jose_rules.specs.Facts.{facts_of}
-use Rattle.jose_rules.specs.DecisionLaws.{chosen_within}
+use Rattle.jose_rules.proofs.DecisionLaws.{chosen_within}
 use Rattle.jose_judging.specs.Judging.{KeyWithin}
 
 pub key_within : (ms : Members) (ks : List Key) {f : Facts} → f ≡ facts_of ms ks → KeyWithin f ks

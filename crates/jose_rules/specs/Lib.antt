@@ -8,15 +8,3 @@ pub mod Deciding
 pub mod Facts
 pub mod HeaderTests
 pub mod Decision
--- What is proved of them, and rows.
-pub mod OnlyOne
-pub mod FactLaws
-pub mod CriticalLaws
-pub mod ChoosingLaws
-pub mod UnknownMembers
-pub mod HeaderLaws
-pub mod NamingLaws
-pub mod DecisionLaws
-pub mod Promises
-pub mod Examples
-pub mod HeaderExamples

@@ -6,11 +6,11 @@ use Prim.Native.Nat.{ℕ, ◌≤◌, ◌<◌, ◌+◌, ◌-◌, ◌*◌, ◌/◌
 use native.Mathlib.Omega.{arith}
 use lib.Dec.{leb}
 use borrow.Author.Tests.{leb-true, leb-false}
-use Rattle.common.specs.FirstLaws.{decides_bool, decides_or}
-use Rattle.common.specs.Decided.{decided, decides_by}
+use Rattle.common.proofs.FirstLaws.{decides_bool, decides_or}
+use Rattle.common.proofs.Decided.{decided, decides_by}
 use Rattle.json_grammar_rules.specs.Bytes.{within, is_digit, is_hex, hex_val}
 use Rattle.json_grammar_rules.specs.Reader.{is_unescaped1}
-use Rattle.json_grammar_rules.specs.ByteLaws.{within_true, within_is, hex_cases}
+use Rattle.json_grammar_rules.proofs.ByteLaws.{within_true, within_is, hex_cases}
 
 pub unescaped_1 : (b : ℕ) → within 0x20 0x21 b ≡ true → true ≡ is_unescaped1 b
 unfolding is_unescaped1

@@ -12,7 +12,7 @@ use Rattle.json_grammar_rules.specs.Reader.{Got, bad, got, then, one, one_by, re
 use Rattle.json_characters.specs.declared.Scan.{Scan}
 use Rattle.json_characters.specs.declared.Scan.TheVariants.{Code, Wrong}
 use Rattle.json_characters.specs.Places.{at_byte}
-use Rattle.json_grammar_rules.specs.ByteLaws.{within_true}
+use Rattle.json_grammar_rules.proofs.ByteLaws.{within_true}
 use Rattle.json_characters.specs.Characters.{Scans}
 use Rattle.json_characters.specs.Steps.{ScanAt, ShortEscape, read_digits}
 use Rattle.json_characters.proofs.ScanLaws.{scans_from, scan_same, scan_got, scan_after, scan_one, scan_not, scan_then, scan_none}

@@ -9,7 +9,7 @@ use Rattle.json_grammar_rules.specs.Bytes.{within, is_tail, code2, code3, code4}
 use Rattle.json_grammar_rules.specs.Reader.{Got, got, one, one_by, is_unescaped1, CharLead, lead2, lead3, lead4, no_char, char_lead, char_by, read_two, read_three, read_four}
 use Rattle.json_characters.specs.declared.Scan.{Scan}
 use Rattle.json_characters.specs.declared.Scan.TheVariants.{Wrong}
-use Rattle.json_grammar_rules.specs.ByteLaws.{within_true, above}
+use Rattle.json_grammar_rules.proofs.ByteLaws.{within_true, above}
 use Rattle.json_characters.specs.Steps.{ScanAt, FormAt, read_digits, read_tails}
 use Rattle.json_characters.proofs.ScanLaws.{scan_same}
 use Rattle.json_characters.proofs.DigitLaws.{room}

@@ -3,9 +3,9 @@ use Rattle.std.specs.Prelude.{◌≡◌, refl, true, List, [], ◌∷◌, ℕ, �
 use Rattle.std.proofs.Common.{sym, ap, ◌∙◌, subst, arith}
 use Rattle.std.proofs.lemmas.Bool.{false≢true}
 use Rattle.json_grammar_rules.specs.Bytes.{within}
-use Rattle.json_grammar_rules.specs.CharLaws.{ascii_high, char_sound}
+use Rattle.json_grammar_rules.proofs.CharLaws.{ascii_high, char_sound}
 use Rattle.json_grammar_rules.specs.Reader.{Got, bad, got, is_unescaped1, char_lead, read_char}
-use Rattle.json_grammar_rules.specs.Written.{char, longer}
+use Rattle.json_grammar_rules.proofs.Written.{char, longer}
 use Rattle.json_characters.specs.declared.Scan.{Scan}
 use Rattle.json_characters.specs.declared.Scan.TheVariants.{Code, Wrong}
 use Rattle.json_characters.specs.Characters.{scan_of, char_at, Scans, CharAt}

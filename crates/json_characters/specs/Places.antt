@@ -1,7 +1,7 @@
 -- Places in a list of bytes.
 use Rattle.std.specs.Prelude.{◌≡◌, List, ◌∷◌, ℕ, ◌+◌, ◌≤◌, ◌<◌, length, drop, get_or}
 use Rattle.std.proofs.Common.{sym, arith, add-one, length-drop, drop-cons}
-use Rattle.json_grammar_rules.specs.Endings.{Ending, at_ending, ending_of, ending_drop}
+use Rattle.json_grammar_rules.proofs.Endings.{Ending, at_ending, ending_of, ending_drop}
 use Rattle.json_grammar_rules.specs.Places.{pos}
 
 -- the byte at a place, and the rest

@@ -8,9 +8,9 @@ use Rattle.json_grammar_rules.specs.Grammar.{Utf8, utf8_1, utf8_2, utf8_E0, utf8
 use Rattle.json_grammar_rules.specs.Grammar.{quote, reverse_solidus, solidus, backspace, form_feed, line_feed, carriage_return, tab}
 use Rattle.json_grammar_rules.specs.Reader.{Got, bad, got, read_char}
 use Rattle.common.specs.Truth.{both, neither}
-use Rattle.json_grammar_rules.specs.ByteLaws.{within_true, within_is, by_test, hex_cases}
-use Rattle.json_grammar_rules.specs.ReaderLaws.{no_bad}
-use Rattle.json_grammar_rules.specs.CharLaws.{complete_char, char_sound}
+use Rattle.json_grammar_rules.proofs.ByteLaws.{within_true, within_is, by_test, hex_cases}
+use Rattle.json_grammar_rules.proofs.ReaderLaws.{no_bad}
+use Rattle.json_grammar_rules.proofs.CharLaws.{complete_char, char_sound}
 use Rattle.json_characters.specs.Utf8.{tail, octets, utf8, Scalar, low, high, Each, none, more}
 
 -- ASCII

@@ -7,11 +7,11 @@ use native.Mathlib.Omega.{arith}
 use lib.Dec.{eqb}
 use lib.ListN.{length, drop, get_or, drop_of_length-le}
 use borrow.Author.Tests.{ne_eqb}
-use Rattle.json_grammar_rules.specs.CharLaws.{chars_fuel}
+use Rattle.json_grammar_rules.proofs.CharLaws.{chars_fuel}
 use Rattle.json_grammar_rules.specs.Reader.{ws, read_chars}
 use Rattle.json_grammar_rules.specs.Scan.{opens, closes, colon_next, marks_name, marks_string, marks}
 use Rattle.json_grammar_rules.specs.Scan as scan
-use Rattle.json_grammar_rules.specs.ScanLaws.{marks_front, marks_none}
+use Rattle.json_grammar_rules.proofs.ScanLaws.{marks_front, marks_none}
 use Rattle.json_string.specs.declared.End.TheVariants.{At, Bad}
 use Rattle.json_string.specs.Ends.{at_byte, left, shorter, fuel, ends_at, ends_bad}
 use Rattle.json_string.specs.Strings.{NameAt, StringEnds}

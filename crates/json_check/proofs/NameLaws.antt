@@ -8,7 +8,7 @@ use native.Mathlib.Numerals.{add-one, sub-one}
 use lib.ListN.{length, drop, get_or, set}
 use Rattle.json_grammar_rules.specs.Value.{among}
 use Rattle.json_grammar_rules.specs.Scan.{opens, closes, marks, around, beyond, search, every, no_more}
-use Rattle.json_grammar_rules.specs.ScanLaws.{search_parts}
+use Rattle.json_grammar_rules.proofs.ScanLaws.{search_parts}
 use Rattle.json_string.specs.declared.End.TheVariants.{At, Bad}
 use Rattle.json_string.specs.Strings.{same_text, fingerprint_at}
 use Rattle.json_check.specs.declared.names.Search.{Search}

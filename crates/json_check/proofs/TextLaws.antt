@@ -8,10 +8,10 @@ use lib.ListN.{length}
 use Rattle.common.specs.First.{◌when◌, first}
 use Rattle.json_grammar_rules.specs.Value.{LMembers}
 use Rattle.json_grammar_rules.specs.Reader.{Got, read}
-use Rattle.json_grammar_rules.specs.ScanLaws.{scan_read}
+use Rattle.json_grammar_rules.proofs.ScanLaws.{scan_read}
 use Rattle.json_reader.specs.Reads.{is_text}
 use Rattle.json_rules.specs.Tests.{members_in, twice_in, grammar_tests}
-use Rattle.json_rules.specs.AnswerLaws.{text_read}
+use Rattle.json_rules.proofs.AnswerLaws.{text_read}
 use Rattle.json_check.specs.Twice.{TwiceFrom}
 
 module _ (d : ℕ) (s : List ℕ) where

@@ -22,7 +22,7 @@ use Rattle.json_rules.specs.declared.Member.TheVariants.{Refused}
 use Rattle.json_rules.specs.Rules.{longest, deepest}
 use Rattle.json_rules.specs.Answers.{place, shown_by, answer_for}
 use Rattle.json_rules.specs.Tests.{members_in, grammar_tests, header_tests, checked, unless_refused, member_of}
-use Rattle.json_rules.specs.AnswerLaws.{checked_read}
+use Rattle.json_rules.proofs.AnswerLaws.{checked_read}
 use Rattle.json_header.specs.Picks.{Picks}
 
 -- THE HEADER'S ANSWER

@@ -5,24 +5,24 @@ use Rattle.std.proofs.Common.{◌∙◌, true≢false, arith}
 use mathlib.Core.List.{List, [], ◌∷◌}
 use Prim.Native.Nat.{ℕ, zero, suc, ◌≤◌, ◌<◌}
 use borrow.Author.Tests.{ltb-false, ne_eqb}
-use Rattle.common.specs.Decided.{test_false}
+use Rattle.common.proofs.Decided.{test_false}
 use Rattle.common.specs.First.{among, settle}
-use Rattle.common.specs.FirstLaws.{decides_lt, stable, not_on, settle_good}
+use Rattle.common.proofs.FirstLaws.{decides_lt, stable, not_on, settle_good}
 use Rattle.json_grammar_rules.specs.Twice.{TwiceNamed}
 use Rattle.json_grammar_rules.specs.Value.{Members, object_v, LMembers, plain_members}
 use Rattle.json_grammar_rules.specs.Grammar.{Derivation, bytes, reading_of, depth_of, members_of}
 use Rattle.json_grammar_rules.specs.Grammar.{ObjectTree, object0, object_of, pair, MembersTail, mend, mmore, yield_many, yield_token, yield_object, yield_member, yield_members, reading_object, reading_members}
 use Rattle.json_grammar_rules.specs.Reader.{Got, got, read}
-use Rattle.json_grammar_rules.specs.Readings.{plain_of}
-use Rattle.json_grammar_rules.specs.Complete.{complete}
-use Rattle.json_grammar_rules.specs.Written.{longer, white, token, member}
+use Rattle.json_grammar_rules.proofs.Readings.{plain_of}
+use Rattle.json_grammar_rules.proofs.Complete.{complete}
+use Rattle.json_grammar_rules.proofs.Written.{longer, white, token, member}
 use Rattle.json_rules.specs.declared.Member.{Member}
 use Rattle.json_rules.specs.declared.Member.TheVariants.{Refused}
 use Rattle.json_rules.specs.Rules.{longest, deepest, count, header_rules, DerivedOnce}
 use Rattle.json_rules.specs.Answers.{number_of}
 use Rattle.json_rules.specs.Tests.{members_in, checked, member_of, Read}
-use Rattle.json_rules.specs.Promises.{derivation, header_none, header_range, refused, member_past, member_found, unread}
-use Rattle.json_rules.specs.Demand3.{read_exactly}
+use Rattle.json_rules.proofs.Promises.{derivation, header_none, header_range, refused, member_past, member_found, unread}
+use Rattle.json_rules.proofs.Demand3.{read_exactly}
 use Rattle.json_header_reader.specs.declared.Counted.{Counted}
 use Rattle.json_header_reader.specs.Counting.{with_members, count_of, ended_if, ended_at}
 

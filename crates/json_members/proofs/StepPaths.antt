@@ -9,9 +9,9 @@ use Rattle.json_grammar_rules.specs.Value.{LValue, LItem, LMember, item, named, 
 use Rattle.json_grammar_rules.specs.declared.Kind.{Kind}
 use Rattle.json_grammar_rules.specs.Places.{kind_of, margin, pos}
 use Rattle.json_grammar_rules.specs.Reader.{Got, got, then, over, expect, ws, placed_item, read_chars, read_value, value_lead}
-use Rattle.json_grammar_rules.specs.ReaderLaws.{expect_over}
+use Rattle.json_grammar_rules.proofs.ReaderLaws.{expect_over}
 use Rattle.json_grammar_rules.specs.Levels.{read_member}
-use Rattle.json_grammar_rules.specs.ByteLaws.{by_byte}
+use Rattle.json_grammar_rules.proofs.ByteLaws.{by_byte}
 use Rattle.json_string.specs.declared.End.{End}
 use Rattle.json_string.specs.declared.End.TheVariants.{At, Bad}
 use Rattle.json_string.specs.Ends.{at_byte, pos_drop, ends_at, ends_bad}

@@ -1,7 +1,7 @@
 -- Laws of members and elements that stand at places, for the proofs of code that walks over them.
 use Rattle.std.specs.Prelude.{List, ℕ, drop}
 use Rattle.json_grammar_rules.specs.Value.{inil, lnil}
-use Rattle.json_grammar_rules.specs.Sequences.{members, elements, not_none}
+use Rattle.json_grammar_rules.proofs.Sequences.{members, elements, not_none}
 use Rattle.json_members.specs.Members.{MembersAt, ElementsAt}
 
 -- there is a member where members stand, and an element where elements do

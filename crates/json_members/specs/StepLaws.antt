@@ -12,11 +12,11 @@ use Rattle.json_grammar_rules.specs.declared.Kind.{Kind}
 use Rattle.json_grammar_rules.specs.Places.{kind_of, margin, pos}
 use Rattle.json_grammar_rules.specs.Reader.{Got, bad, got, deeper, ws, word, up_to, value_by_lem, read_chars, read_number, past_number, read_value, read_more_members, read_more_elements, read_object}
 use Rattle.json_grammar_rules.specs.Reader.{ValueLead, quote_lead, bracket_lead, brace_lead, true_lead, false_lead, null_lead, number_lead, value_lead}
-use Rattle.json_grammar_rules.specs.ReaderLaws.{no_bad, then_inv, over_inv, read_inv}
-use Rattle.json_grammar_rules.specs.Sequences.{Sequence, sequence, members, elements, list_inv, list_out, MemberRead, member_inv}
+use Rattle.json_grammar_rules.proofs.ReaderLaws.{no_bad, then_inv, over_inv, read_inv}
+use Rattle.json_grammar_rules.proofs.Sequences.{Sequence, sequence, members, elements, list_inv, list_out, MemberRead, member_inv}
 use Rattle.json_grammar_rules.specs.Levels.{read_bare, read_member}
-use Rattle.json_grammar_rules.specs.Endings.{Ending, shorter_ending, at_ending, ending_of, ending_drop, ending_byte, ending_ws, ValueRead, value_read, name_ends, colon_ends}
-use Rattle.json_grammar_rules.specs.Fuel.{value_fuel, member_fuel}
+use Rattle.json_grammar_rules.proofs.Endings.{Ending, shorter_ending, at_ending, ending_of, ending_drop, ending_byte, ending_ws, ValueRead, value_read, name_ends, colon_ends}
+use Rattle.json_grammar_rules.proofs.Fuel.{value_fuel, member_fuel}
 use Rattle.json_string.specs.declared.End.{End}
 use Rattle.json_string.specs.declared.End.TheVariants.{At, Bad}
 use Rattle.json_string.specs.Ends.{at_byte}

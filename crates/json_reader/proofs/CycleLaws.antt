@@ -7,8 +7,8 @@ use lib.ListN.{length, drop, get_or}
 use borrow.Author.Tests.{eq-eqb, ne_eqb}
 use Rattle.json_grammar_rules.specs.Value.{LMember, string_l, number_l, true_l, false_l, null_l, array_l, object_l, item, named}
 use Rattle.json_grammar_rules.specs.Reader.{Got, bad, got, over, expect, ws, deeper, up_to, value_lead, read_chars, read_value, read_more_elements, read_more_members}
-use Rattle.json_grammar_rules.specs.ReaderLaws.{expect_over}
-use Rattle.json_grammar_rules.specs.Sequences.{Sequence, sequence, members, elements}
+use Rattle.json_grammar_rules.proofs.ReaderLaws.{expect_over}
+use Rattle.json_grammar_rules.proofs.Sequences.{Sequence, sequence, members, elements}
 use Rattle.json_grammar_rules.specs.Levels.{read_members}
 use Rattle.json_string.specs.declared.End.{End}
 use Rattle.json_string.specs.declared.End.TheVariants.{At, Bad}

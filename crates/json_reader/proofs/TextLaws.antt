@@ -10,7 +10,7 @@ use borrow.Author.Tests.{eqb-true, eqb-false, ne_eqb}
 use Rattle.json_grammar_rules.specs.Value.{LMembers, item}
 use Rattle.json_grammar_rules.specs.Reader.{Got, got, then, expect, ws, placed_item, ends_by}
 use Rattle.json_grammar_rules.specs.Reader.{read_object, read}
-use Rattle.json_grammar_rules.specs.Unique.{is_got}
+use Rattle.json_grammar_rules.proofs.Unique.{is_got}
 use Rattle.json_string.specs.declared.End.{End}
 use Rattle.json_string.specs.declared.End.TheVariants.{At, Bad}
 use Rattle.json_reader.specs.declared.values.Span.TheVariants.{Between, Nowhere}

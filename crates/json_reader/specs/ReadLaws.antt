@@ -7,11 +7,11 @@ use Rattle.std.proofs.Math.ListN.{length}
 use Rattle.json_grammar_rules.specs.Value.{LValue, LItem, item}
 use Rattle.json_grammar_rules.specs.Places.{pos}
 use Rattle.json_grammar_rules.specs.Reader.{Got, bad, got, ws, read_value}
-use Rattle.json_grammar_rules.specs.ReaderLaws.{no_bad, expect_inv}
-use Rattle.json_grammar_rules.specs.Written.{value}
-use Rattle.json_grammar_rules.specs.Sound.{bare_found}
-use Rattle.json_grammar_rules.specs.Endings.{Ending, shorter_ending, at_ending, ending_of, ending_drop, ending_byte, ending_ws, yield_leaves, value_read}
-use Rattle.json_grammar_rules.specs.Fuel.{Steady, one_same, value_fuel, bare_fuel}
+use Rattle.json_grammar_rules.proofs.ReaderLaws.{no_bad, expect_inv}
+use Rattle.json_grammar_rules.proofs.Written.{value}
+use Rattle.json_grammar_rules.proofs.Sound.{bare_found}
+use Rattle.json_grammar_rules.proofs.Endings.{Ending, shorter_ending, at_ending, ending_of, ending_drop, ending_byte, ending_ws, yield_leaves, value_read}
+use Rattle.json_grammar_rules.proofs.Fuel.{Steady, one_same, value_fuel, bare_fuel}
 use Rattle.json_string.specs.declared.End.{End}
 use Rattle.json_string.specs.Ends.{at_byte}
 use Rattle.json_tokens.specs.EndsLaws.{ends_of, is_end}

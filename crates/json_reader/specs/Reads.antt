@@ -8,7 +8,7 @@ use Rattle.json_grammar_rules.specs.Reader.{ValueLead, quote_lead, bracket_lead,
 use Rattle.json_grammar_rules.specs.Reader.{deeper, read_value, read_object, read}
 use Rattle.json_grammar_rules.specs.Levels.{read_bare, read_in_array}
 pub use Rattle.json_grammar_rules.specs.Levels.{read_elements, read_member, read_members}
-use Rattle.json_grammar_rules.specs.Unique.{is_got}
+use Rattle.json_grammar_rules.proofs.Unique.{is_got}
 use Rattle.json_string.specs.declared.End.{End}
 use Rattle.json_reader.specs.declared.values.Span.{Span}
 use Rattle.json_reader.specs.declared.values.Span.TheVariants.{Between, Nowhere}

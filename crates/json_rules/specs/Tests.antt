@@ -5,7 +5,7 @@ use Rattle.common.specs.First.{Test, ◌when◌, first}
 use Rattle.json_grammar_rules.specs.Value.{object_v, twice, LMembers, lnil, plain_members}
 use Rattle.json_grammar_rules.specs.Places.{MemberPlaces, member}
 use Rattle.json_grammar_rules.specs.Reader.{Got, bad, got, read}
-use Rattle.json_grammar_rules.specs.Unique.{is_got}
+use Rattle.json_grammar_rules.proofs.Unique.{is_got}
 use Rattle.json_rules.specs.declared.Member.{Member}
 use Rattle.json_rules.specs.declared.Member.TheVariants.{Refused}
 use Rattle.json_rules.specs.Rules.{longest, deepest}

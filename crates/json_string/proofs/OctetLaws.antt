@@ -10,7 +10,7 @@ use lib.ListN.{length, take, drop, get_or, length-take, length-drop, length-appe
 use lib.Seq.{get_or-take}
 use borrow.Author.Tests.{eq-eqb, ne_eqb}
 use Rattle.common.specs.Same.{same}
-use Rattle.common.specs.SameLaws.{same_longer}
+use Rattle.common.proofs.SameLaws.{same_longer}
 use Rattle.json_string.specs.declared.End.TheVariants.{At, Bad}
 use Rattle.json_string.specs.Ends.{at_byte}
 use Rattle.json_characters.specs.Utf8.{octets}

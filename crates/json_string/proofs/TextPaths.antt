@@ -7,9 +7,9 @@ use native.Mathlib.Omega.{arith}
 use lib.Dec.{eqb}
 use lib.ListN.{length, drop, get_or, drop_of_length-le}
 use borrow.Author.Tests.{eq-eqb, ne_eqb, eqb-true, eqb-false}
-use Rattle.common.specs.Decided.{test_false}
+use Rattle.common.proofs.Decided.{test_false}
 use Rattle.common.specs.Same.{same}
-use Rattle.common.specs.SameLaws.{decides_same}
+use Rattle.common.proofs.SameLaws.{decides_same}
 use Rattle.json_grammar_rules.specs.Reader.{Got, bad, got, over}
 use Rattle.json_string.specs.declared.End.{End}
 use Rattle.json_string.specs.declared.End.TheVariants.{At, Bad}

@@ -3,7 +3,7 @@ use Rattle.std.specs.Prelude.{◌≡◌, refl, List, ℕ, ◌+◌, ◌≤◌, �
 use Rattle.std.proofs.Common.{sym, ap, ◌∙◌, subst, arith, length-drop}
 use Rattle.json_grammar_rules.specs.Places.{pos}
 use Rattle.json_grammar_rules.specs.Reader.{Got, bad, got, over}
-pub use Rattle.json_grammar_rules.specs.ReaderLaws.{fuel}
+pub use Rattle.json_grammar_rules.proofs.ReaderLaws.{fuel}
 pub use Rattle.json_characters.specs.Places.{at_byte, pos_drop, pos_left}
 use Rattle.json_string.specs.declared.End.{End}
 use Rattle.json_string.specs.declared.End.TheVariants.{At, Bad}

@@ -4,7 +4,7 @@ use Rattle.std.proofs.Math.Path.{ap}
 use Rattle.std.proofs.Common.{◌∙◌, arith, drop_of_length-le, ne_eqb}
 use Rattle.std.proofs.Math.ListN.{length}
 use Rattle.json_grammar_rules.specs.Reader.{Got, bad, got, then, over, is_unescaped1, read_char, read_chars}
-use Rattle.json_grammar_rules.specs.CharLaws.{chars_fuel}
+use Rattle.json_grammar_rules.proofs.CharLaws.{chars_fuel}
 use Rattle.json_characters.specs.declared.Scan.TheVariants.{Code, Wrong}
 use Rattle.json_characters.specs.Characters.{CharAt}
 use Rattle.json_characters.specs.CharacterLaws.{char_plain, plain_quote}

@@ -1,10 +1,10 @@
 -- A string of a JSON text that is compared with a word of ASCII.
 use Rattle.std.specs.Prelude.{◌≡◌, Bool, true, ◌&&◌, List, [], ◌∷◌, ℕ, ◌≤◌, leb}
 use Rattle.std.proofs.Common.{sym, ap, ◌∙◌, arith}
-use Rattle.common.specs.FirstLaws.{decides_le, decides_iff, ◌and◌, decides_bool}
-use Rattle.common.specs.Decided.{decided, when_true}
+use Rattle.common.proofs.FirstLaws.{decides_le, decides_iff, ◌and◌, decides_bool}
+use Rattle.common.proofs.Decided.{decided, when_true}
 use Rattle.common.specs.Same.{same}
-use Rattle.common.specs.SameLaws.{decides_same}
+use Rattle.common.proofs.SameLaws.{decides_same}
 use Rattle.json_string.specs.Strings.{NameAt, text_is}
 use Rattle.json_string.specs.StringLaws.{name_is, name_scalar}
 use Rattle.json_characters.specs.Utf8.{utf8, Scalar, low, Each, none, more}

@@ -2,7 +2,7 @@
 use Rattle.std.specs.Prelude.{◌≡◌, refl, List, [], ◌∷◌, ℕ, zero, suc, ◌≤◌, ◌<◌, ◌+◌, ◌-◌, length, drop, get_or}
 use Rattle.std.proofs.Common.{sym, ap, ◌∙◌, arith, sub-one, drop_of_length-le}
 use Rattle.json_grammar_rules.specs.Reader.{Got, bad, got, then, over, deeper}
-use Rattle.json_grammar_rules.specs.Fuel.{Steady}
+use Rattle.json_grammar_rules.proofs.Fuel.{Steady}
 use Rattle.json_string.specs.declared.End.{End}
 use Rattle.json_string.specs.declared.End.TheVariants.{At, Bad}
 use Rattle.json_string.specs.Ends.{Ends, end_of, at_byte, pos_left, ends_end, ends_at, ends_bad, ends_over, ends_from, by, left, shorter, fuel}

@@ -10,11 +10,11 @@ use Rattle.std.proofs.Math.ListN.{length, drop, length-drop}
 use Rattle.std.proofs.Math.Seq.{drop-append_seam}
 use Rattle.json_grammar_rules.specs.Bytes.{is_ws}
 use Rattle.json_grammar_rules.specs.Reader.{Past, bad, got, skip, past_number, word}
-use Rattle.json_grammar_rules.specs.ReaderLaws.{word_inv}
-use Rattle.json_grammar_rules.specs.NumberLaws.{number_sound}
-use Rattle.json_grammar_rules.specs.Written.{number}
-use Rattle.json_grammar_rules.specs.Endings.{yield_leaves}
-use Rattle.json_grammar_rules.specs.Fuel.{Steady}
+use Rattle.json_grammar_rules.proofs.ReaderLaws.{word_inv}
+use Rattle.json_grammar_rules.proofs.NumberLaws.{number_sound}
+use Rattle.json_grammar_rules.proofs.Written.{number}
+use Rattle.json_grammar_rules.proofs.Endings.{yield_leaves}
+use Rattle.json_grammar_rules.proofs.Fuel.{Steady}
 use Rattle.json_string.specs.declared.End.{End}
 use Rattle.json_string.specs.Ends.{Ends}
 use Rattle.json_tokens.specs.Tokens.{skip_to, skip_ws, MovesTo, SkipsTo, NumberEnds, number_end, WordEnds, end_at, word_end}

@@ -8,7 +8,7 @@ use lib.ListN.{length, take, drop, replicate, length-take}
 use borrow.Rule.Slice.PartMut.{put_mid}
 use Rattle.common.specs.Buffer.{filled}
 use Rattle.common.specs.First.{first}
-use Rattle.common.specs.FirstLaws.{settle_good, settle_bad}
+use Rattle.common.proofs.FirstLaws.{settle_good, settle_bad}
 use Rattle.common.specs.Laid.{cleared_from}
 use Rattle.jws_rules.specs.declared.Verified.{Verified}
 use Rattle.jws_rules.specs.Calls.{VerifyCall}

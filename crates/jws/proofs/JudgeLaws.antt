@@ -9,7 +9,7 @@ use lib.Dec.{ltb}
 use lib.ListN.{length, take, drop, length-take}
 use borrow.Author.Tests.{lt-ltb, le-ltb, ltb-false, eq-eqb, ne_eqb, not-true, not-false}
 use Rattle.common.specs.First.{◌when◌, first}
-use Rattle.common.specs.FirstLaws.{first_within, first_after, all_pass, passed}
+use Rattle.common.proofs.FirstLaws.{first_within, first_after, all_pass, passed}
 use Rattle.common.specs.Laid.{part_from}
 use Rattle.common.specs.Same.{same}
 use Rattle.common.specs.Truth.{neither}
@@ -24,7 +24,7 @@ use Rattle.jose_rules.specs.declared.Decision.TheVariants.{Refused, Chosen}
 use Rattle.jose_rules.specs.Rules.{terms_of}
 use Rattle.jose_rules.specs.HeaderTests.{jose_tests}
 use Rattle.jose_rules.specs.Decision.{decision_with}
-use Rattle.jose_rules.specs.DecisionLaws.{with_refused, with_chosen}
+use Rattle.jose_rules.proofs.DecisionLaws.{with_refused, with_chosen}
 use Rattle.jws_rules.specs.declared.Verified.{Verified}
 use Rattle.jws_rules.specs.Calls.{VerifyCall}
 use Rattle.jws_rules.specs.Segments.{periods, front, back}

@@ -3,14 +3,14 @@ use Rattle.std.specs.Prelude.{◌≡◌, refl, Bool, true, false, ◌&&◌, List
 use Rattle.std.proofs.Common.{sym, ap, ◌∙◌, subst, append-nil, arith, eqb-true}
 use Rattle.std.proofs.lemmas.Bool.{eqb-false}
 use Rattle.common.specs.Buffer.{laid}
-use Rattle.common.specs.Decided.{test_false}
+use Rattle.common.proofs.Decided.{test_false}
 use Rattle.common.specs.Laid.{take_laid}
 use Rattle.common.specs.Same.{same}
-use Rattle.common.specs.SameLaws.{decides_same}
+use Rattle.common.proofs.SameLaws.{decides_same}
 use Rattle.base64url_rules.specs.Base64url.{decode, strict, decoded_length}
-use Rattle.base64url_rules.specs.LengthLaws.{length_decode}
+use Rattle.base64url_rules.proofs.LengthLaws.{length_decode}
 use Rattle.base64url_rules.specs.Outcome.{Decoding, decoded_to, decoding}
-use Rattle.base64url_rules.specs.OutcomeLaws.{Answered, written, faulty, short, judge, accepted}
+use Rattle.base64url_rules.proofs.OutcomeLaws.{Answered, written, faulty, short, judge, accepted}
 use Rattle.base64url_rules.specs.declared.Decoded.{Decoded}
 use Rattle.base64url_rules.specs.declared.Decoded.TheVariants.{Bytes, Fault, Short}
 use Rattle.jws_segments.specs.declared.segment.Segment.{Segment}

@@ -2,7 +2,7 @@
 use Rattle.std.specs.Prelude.{◌≡◌, refl, Bool, true, false, cond, List, [], ◌∷◌, ◌++◌, ℕ, zero, suc, ◌+◌, ◌-◌, ◌≤◌, ◌<◌, eqb, length, take, drop}
 use Rattle.std.proofs.Common.{sym, ap, ◌∙◌, append_assoc, append-nil, arith, length-append, length-drop, take-append-drop, take_at, drop_at, drop-drop, take_all, length-take-le, eqb-true, eq-eqb, ne_eqb}
 use Rattle.jws_rules.specs.Segments.{period, periods, front, back, ◌dot◌}
-use Rattle.jws_rules.specs.SegmentLaws.{length_dot, periods_dot, front_past, split}
+use Rattle.jws_rules.proofs.SegmentLaws.{length_dot, periods_dot, front_past, split}
 use Rattle.jws_rules.specs.Token.{sent_input}
 use Rattle.jws_segments.specs.declared.periods.Cut.TheVariants.{At, Not}
 use Rattle.jws_segments.specs.Split.{split_of}

@@ -1,6 +1,6 @@
 // Decoding one segment.
 ghost use Rattle.std.specs.Prelude.{◌≡◌};
-ghost use Rattle.base64url_rules.specs.Tables.{values};
+ghost use Rattle.base64url_rules.proofs.Tables.{values};
 ghost use Rattle.jws_segments.specs.Opening.{segment_of, decoded_out};
 
 use base64url_decoding::{Decoded, decode_with, decoded_len};

@@ -1,6 +1,6 @@
 // A token's signature.
 ghost use Rattle.std.specs.Prelude.{◌≡◌};
-ghost use Rattle.base64url_rules.specs.Tables.{values};
+ghost use Rattle.base64url_rules.proofs.Tables.{values};
 ghost use Rattle.jws_segments.specs.Opening.{signature_in, is_mac};
 
 use crate::equal::equal;

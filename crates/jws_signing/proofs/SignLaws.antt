@@ -7,15 +7,15 @@ use native.Mathlib.Omega.{arith}
 use lib.ListN.{length}
 use borrow.Author.Tests.{lt-ltb, le-ltb}
 use Rattle.common.specs.First.{first}
-use Rattle.common.specs.FirstLaws.{first_within, first_after, settle_bad}
+use Rattle.common.proofs.FirstLaws.{first_within, first_after, settle_bad}
 use Rattle.base64url_rules.specs.Base64url.{encoded_length}
-use Rattle.base64url_rules.specs.LengthLaws.{length_encode, encoded_length_lem}
+use Rattle.base64url_rules.proofs.LengthLaws.{length_encode, encoded_length_lem}
 use Rattle.json_rules.specs.Rules.{longest}
 use Rattle.keytable_rules.specs.Table.{bad_table, keys}
 use Rattle.jose_rules.specs.declared.Choice.{Choice}
 use Rattle.jose_rules.specs.declared.Decision.TheVariants.{Refused, Chosen}
 use Rattle.jose_rules.specs.Decision.{deciding_tests, decision}
-use Rattle.jose_rules.specs.DecisionLaws.{refused, chosen_by}
+use Rattle.jose_rules.proofs.DecisionLaws.{refused, chosen_by}
 use Rattle.jws_rules.specs.Calls.{SignCall}
 use Rattle.jws_rules.specs.Outcomes.{unsigned, signed_as}
 use Rattle.jws_rules.specs.Tests.{length_tests, sign_tests, signed}

@@ -2,7 +2,7 @@
 ghost use Rattle.std.specs.Prelude.{◌≡◌, ◌+◌, ◌≤◌, length, take};
 ghost use Rattle.base64url_rules.specs.Base64url.{encode};
 ghost use Rattle.common.specs.Buffer.{laid, Front};
-ghost use Rattle.base64url_rules.specs.Tables.{characters};
+ghost use Rattle.base64url_rules.proofs.Tables.{characters};
 ghost use Rattle.json_rules.specs.Rules.{longest};
 ghost use Rattle.jws_rules.specs.Calls.{sign_call};
 ghost use Rattle.jws_rules.specs.Segments.{◌dot◌};

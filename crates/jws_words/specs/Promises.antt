@@ -8,8 +8,8 @@ use Rattle.jws_rules.specs.declared.Record.{Record}
 use Rattle.jws_rules.specs.Calls.{VerifyCall, SignCall}
 use Rattle.jws_rules.specs.Outcomes.{payload, part_length}
 use Rattle.jws_rules.specs.Tests.{verified, signed}
-use Rattle.jws_rules.specs.Promises.{verify_zeros, sign_zeros, part_within}
-use Rattle.jws_rules.specs.Naming.{accepted_names}
+use Rattle.jws_rules.proofs.Promises.{verify_zeros, sign_zeros, part_within}
+use Rattle.jws_rules.proofs.Naming.{accepted_names}
 use Rattle.jws_words.specs.Words.{record_words, verify_gives, verify_words, sign_gives, sign_words, found_words, member_words, payload_word}
 
 -- jws_verify: the nine words and both buffers

@@ -6,8 +6,8 @@ use Prim.Native.Nat.{◌<◌}
 use native.Mathlib.Omega.{arith}
 use lib.ListN.{length}
 use Rattle.base64url_rules.specs.Base64url.{decode, strict}
-use Rattle.base64url_rules.specs.LengthLaws.{length_decode}
-use Rattle.base64url_rules.specs.OutcomeLaws.{accepted, refused}
+use Rattle.base64url_rules.proofs.LengthLaws.{length_decode}
+use Rattle.base64url_rules.proofs.OutcomeLaws.{accepted, refused}
 -- the buffer keeps its length, whether or not it was written
 use Rattle.base64url_decoding.proofs.decode_with.Goals as goal
 use Rattle.base64url_decoding.proofs.decode_with.Goals.{else-n-out-via-then-n-out+else-decode_into, else-n-out-via-else-n-out}

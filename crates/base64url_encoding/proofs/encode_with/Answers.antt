@@ -3,8 +3,8 @@ use mathlib.Core.Path.{◌≡◌, sym, ◌∙◌}
 use native.Mathlib.Omega.{arith}
 use lib.ListN.{length}
 use Rattle.base64url_rules.specs.Base64url.{encode}
-use Rattle.base64url_rules.specs.LengthLaws.{length_encode}
-use Rattle.base64url_rules.specs.OutcomeLaws.{roomy, tight}
+use Rattle.base64url_rules.proofs.LengthLaws.{length_encode}
+use Rattle.base64url_rules.proofs.OutcomeLaws.{roomy, tight}
 use Rattle.base64url_encoding.proofs.encode_with.Goals as goal
 
 pub returns-then-n-out : goal.returns-then-n-out

@@ -5,7 +5,7 @@ use native.Mathlib.Omega.{arith}
 use lib.ListN.{length}
 use Rattle.sha2_rules.specs.Parameters.{sha_256}
 use Rattle.sha2_rules.specs.Hash.{hash_after}
-use Rattle.sha2_rules.specs.BlockLaws.{after_blocks}
+use Rattle.sha2_rules.proofs.BlockLaws.{after_blocks}
 use Rattle.hmac.proofs.hash_with_block.Goals as goal
 
 pub returns : goal.returns

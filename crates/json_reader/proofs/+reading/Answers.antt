@@ -9,7 +9,7 @@ use Rattle.json_string.specs.declared.End.{End}
 use Rattle.json_reader.specs.Reads.{ElementsEnd, MembersEnd}
 use Rattle.json_tokens.specs.EndsLaws.{ended, bounds}
 use Rattle.json_reader.proofs.CycleLaws as law
-use Rattle.json_grammar_rules.specs.Sequences as seq
+use Rattle.json_grammar_rules.proofs.Sequences as seq
 use Rattle.json_reader.proofs.+reading.Goals as goal
 
 pub arrays::array-returns-then-depth-eq0 : goal.arrays::array-returns-then-depth-eq0

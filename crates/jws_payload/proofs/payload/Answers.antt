@@ -3,7 +3,7 @@ use mathlib.Core.Path.{◌≡◌}
 use Prim.Native.Nat.{◌-◌}
 use native.Mathlib.Omega.{arith}
 use lib.ListN.{length}
-use Rattle.jws_rules.specs.Promises.{part_within}
+use Rattle.jws_rules.proofs.Promises.{part_within}
 use Rattle.jws_payload.proofs.payload.Goals as goal
 
 pub slice_bounds-result-end : goal.slice_bounds-result-end

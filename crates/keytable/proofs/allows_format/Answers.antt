@@ -1,7 +1,7 @@
 -- `allows_format`: bit f - 1 of the entry's byte 9.
 use mathlib.Core.Path.{sym, ap}
 use Rattle.keytable_rules.specs.Key.{allows_format}
-use Rattle.keytable_rules.specs.TableLaws.{entry}
+use Rattle.keytable_rules.proofs.TableLaws.{entry}
 use Rattle.keytable.proofs.allows_format.Goals as goal
 
 pub returns : goal.returns

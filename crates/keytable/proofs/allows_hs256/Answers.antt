@@ -4,7 +4,7 @@ use Prim.Native.Nat.{◌%◌}
 use native.Mathlib.Nat.{div-one}
 use lib.Dec.{eqb}
 use Rattle.keytable_rules.specs.Key.{allows_hs256}
-use Rattle.keytable_rules.specs.TableLaws.{entry}
+use Rattle.keytable_rules.proofs.TableLaws.{entry}
 use Rattle.keytable.proofs.allows_hs256.Goals as goal
 
 pub returns : goal.returns

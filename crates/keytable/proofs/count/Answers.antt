@@ -1,7 +1,7 @@
 -- `count`: the number in bytes 2 and 3.
 use mathlib.Core.Path.{sym, ◌∙◌}
 use native.Mathlib.Omega.{arith}
-use Rattle.keytable_rules.specs.TableLaws.{wellformed, length_keys}
+use Rattle.keytable_rules.proofs.TableLaws.{wellformed, length_keys}
 use Rattle.keytable.proofs.count.Goals as goal
 
 pub number2_at-requires : goal.number2_at-requires

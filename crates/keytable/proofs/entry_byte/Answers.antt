@@ -1,6 +1,6 @@
 -- `entry_byte`: the entry lies within the table.
 use native.Mathlib.Omega.{arith}
-use Rattle.keytable_rules.specs.TableLaws.{entry}
+use Rattle.keytable_rules.proofs.TableLaws.{entry}
 use Rattle.keytable.proofs.entry_byte.Goals as goal
 
 pub entry_at-requires : goal.entry_at-requires

@@ -5,9 +5,9 @@ use native.Mathlib.Omega.{arith}
 use lib.ListN.{length}
 use borrow.Author.Count.{below_more}
 use Rattle.keytable_rules.specs.Table.{keys}
-use Rattle.keytable_rules.specs.KeyLaws.{finds, finds_one}
+use Rattle.keytable_rules.proofs.KeyLaws.{finds, finds_one}
 use Rattle.keytable_rules.specs.Key.{key, first, none}
-use Rattle.common.specs.Decided.{when_true, when_false}
+use Rattle.common.proofs.Decided.{when_true, when_false}
 use Rattle.keytable.proofs.find.Goals as goal
 
 pub returns-then-same : goal.returns-then-same

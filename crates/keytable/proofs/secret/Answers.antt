@@ -2,7 +2,7 @@
 use mathlib.Core.Path.{sym, ap, ◌∙◌}
 use native.Mathlib.Omega.{arith}
 use Rattle.keytable_rules.specs.Key.{Key}
-use Rattle.keytable_rules.specs.TableLaws.{entry}
+use Rattle.keytable_rules.proofs.TableLaws.{entry}
 use Rattle.keytable.proofs.secret.Goals as goal
 
 pub entry_at-requires : goal.entry_at-requires

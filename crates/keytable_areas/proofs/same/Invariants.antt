@@ -7,8 +7,8 @@ use lib.ListN.{length}
 use lib.Seq.{ext_get_or}
 use borrow.Author.Count.{below_none}
 use Rattle.common.specs.First.{fails}
-use Rattle.common.specs.FirstLaws.{decides_eq}
-use Rattle.common.specs.Decided.{decides_by}
+use Rattle.common.proofs.FirstLaws.{decides_eq}
+use Rattle.common.proofs.Decided.{decides_by}
 use Rattle.common.specs.Bytes.{Bytes}
 use Rattle.common.specs.BytesLaws.{bytes_of}
 use Rattle.common.specs.LittleEndian.{word8, SameTo, same_word8}

@@ -2,8 +2,8 @@
 use mathlib.Core.Path.{◌∙◌}
 use native.Mathlib.Omega.{arith}
 use Rattle.common.specs.First.{fails}
-use Rattle.keytable_rules.specs.TableLaws.{decides_good, room}
-use Rattle.common.specs.Decided.{decided, decides_by, when_true, when_false}
+use Rattle.keytable_rules.proofs.TableLaws.{decides_good, room}
+use Rattle.common.proofs.Decided.{decided, decides_by, when_true, when_false}
 use Rattle.keytable_check.proofs.good.Goals as goal
 
 pub returns-then-table-lt-TABLE_LEAST : goal.returns-then-table-lt-TABLE_LEAST

@@ -2,7 +2,7 @@
 use native.Mathlib.Omega.{arith}
 use lib.Seq.{length-take-le}
 use Rattle.sha2_rules.specs.Parameters.{sha_256}
-use Rattle.sha2_rules.specs.BlockLaws.{two_parts}
+use Rattle.sha2_rules.proofs.BlockLaws.{two_parts}
 use Rattle.sha256.proofs.absorb.Goals as goal
 
 pub absorb_runs-v-requires : goal.absorb_runs-v-requires

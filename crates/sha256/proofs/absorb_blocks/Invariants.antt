@@ -5,7 +5,7 @@ use native.Mathlib.Omega.{arith}
 use lib.ListN.{length}
 use Rattle.sha2_rules.specs.Parameters.{sha_256}
 use Rattle.sha2_rules.specs.Hash.{hash_value}
-use Rattle.sha2_rules.specs.ValueLaws.{one_block}
+use Rattle.sha2_rules.proofs.ValueLaws.{one_block}
 use Rattle.sha256.proofs.absorb_blocks.Given as goal
 
 abbrev pub invariant-loop-at : goal.invariant-loop-at

@@ -3,7 +3,7 @@ use mathlib.Core.Path.{sym, ◌∙◌}
 use native.Mathlib.Omega.{arith}
 use lib.Seq.{length-take-le}
 use Rattle.sha2_rules.specs.Parameters.{sha_256}
-use Rattle.sha2_rules.specs.FinishLaws.{ends_there, finished}
+use Rattle.sha2_rules.proofs.FinishLaws.{ends_there, finished}
 use Rattle.sha256.proofs.hash_after.Goals as goal
 
 pub last_blocks-d-requires : goal.last_blocks-d-requires

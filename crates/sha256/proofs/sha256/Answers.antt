@@ -4,7 +4,7 @@ use mathlib.Core.List.{[]}
 use native.Mathlib.Omega.{arith}
 use Rattle.sha2_rules.specs.Parameters.{sha_256}
 use Rattle.sha2_rules.specs.Hash.{hash_value}
-use Rattle.sha2_rules.specs.BlockLaws.{after_blocks}
+use Rattle.sha2_rules.proofs.BlockLaws.{after_blocks}
 use Rattle.sha256.proofs.sha256.Goals as goal
 
 pub returns : goal.returns

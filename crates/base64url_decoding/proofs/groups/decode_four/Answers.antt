@@ -3,7 +3,7 @@ use mathlib.Core.Path.{refl, sym, ◌∙◌}
 use mathlib.Core.Bool.{false≢true}
 use native.Mathlib.Omega.{arith}
 use lib.ListN.{length-set}
-use Rattle.base64url_rules.specs.Tables.{entries}
+use Rattle.base64url_rules.proofs.Tables.{entries}
 use Rattle.base64url_decoding.proofs.DecodeLaws.{group_alone}
 use Rattle.base64url_decoding.proofs.groups.decode_four.Goals as goal
 

@@ -2,7 +2,7 @@
 use mathlib.Core.Bool.{and-false}
 use native.Mathlib.Omega.{arith}
 use lib.ListN.{length-set}
-use Rattle.base64url_rules.specs.Tables.{entries}
+use Rattle.base64url_rules.proofs.Tables.{entries}
 use Rattle.base64url_decoding.proofs.DecodeLaws.{nothing}
 use Rattle.base64url_decoding.proofs.RestLaws.{as_listed, alone, two_good, two_bad, three_good, three_bad}
 use Rattle.base64url_decoding.proofs.groups.decode_rest.Goals as goal

@@ -7,8 +7,8 @@ use lib.Seq.{take_all}
 use Rattle.common.specs.Buffer.{laid}
 use Rattle.common.specs.Laid.{four_stores}
 use Rattle.base64url_rules.specs.Base64url.{encode}
-use Rattle.base64url_rules.specs.Grouping.{encode_grouping, group_more}
-use Rattle.base64url_rules.specs.Tables.{entries}
+use Rattle.base64url_rules.proofs.Grouping.{encode_grouping, group_more}
+use Rattle.base64url_rules.proofs.Tables.{entries}
 use Rattle.base64url_encoding.proofs.groups.encode_groups.Goals as goal
 
 pub loop-i-init : goal.loop-i-init

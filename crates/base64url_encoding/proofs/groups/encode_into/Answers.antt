@@ -4,8 +4,8 @@ use Prim.Native.Nat.{◌*◌, ◌/◌}
 use native.Mathlib.Omega.{arith}
 use lib.ListN.{length, take}
 use lib.Seq.{length-take-le}
-use Rattle.base64url_rules.specs.Grouping.{encode_grouping, then_rest}
-use Rattle.base64url_rules.specs.LengthLaws.{encoded_length_lem}
+use Rattle.base64url_rules.proofs.Grouping.{encode_grouping, then_rest}
+use Rattle.base64url_rules.proofs.LengthLaws.{encoded_length_lem}
 use Rattle.base64url_encoding.proofs.RestLaws.{rest_fits}
 use Rattle.base64url_encoding.proofs.groups.encode_into.Goals as goal
 

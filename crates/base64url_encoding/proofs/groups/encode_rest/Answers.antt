@@ -3,8 +3,8 @@ use mathlib.Core.Path.{refl}
 use native.Mathlib.Omega.{arith}
 use lib.ListN.{length, length-set}
 use Rattle.base64url_rules.specs.Base64url.{encode}
-use Rattle.base64url_rules.specs.LengthLaws.{encoded_length_lem}
-use Rattle.base64url_rules.specs.Tables.{entries}
+use Rattle.base64url_rules.proofs.LengthLaws.{encoded_length_lem}
+use Rattle.base64url_rules.proofs.Tables.{entries}
 use Rattle.base64url_encoding.proofs.RestLaws.{as_listed, one_byte, two_bytes}
 use Rattle.base64url_encoding.proofs.groups.encode_rest.Goals as goal
 

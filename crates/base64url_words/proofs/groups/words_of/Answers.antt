@@ -1,6 +1,6 @@
 -- `words_of` meets its contract, by either table.
 use mathlib.Core.Logic.{⊎_elim}
-use Rattle.base64url_rules.specs.Tables.{entries}
+use Rattle.base64url_rules.proofs.Tables.{entries}
 use Rattle.base64url_words.proofs.WordLaws.{handed, two_groups, as_listed}
 use Rattle.base64url_words.proofs.groups.words_of.Goals as goal
 

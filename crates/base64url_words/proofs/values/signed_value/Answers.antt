@@ -3,7 +3,7 @@ use borrow.Author.Rules.{rules}
 use mathlib.Core.Path.{◌≡◌}
 use lib.IntN.{pos}
 use lib.ListN.{get_or}
-use Rattle.base64url_rules.specs.Tables.{signed, values, entry}
+use Rattle.base64url_rules.proofs.Tables.{signed, values, entry}
 use Rattle.base64url_words.proofs.SignLaws.{fits_32, from_8, from_32}
 use Rattle.base64url_words.proofs.values.signed_value.Goals as goal
 

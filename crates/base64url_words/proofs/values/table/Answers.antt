@@ -2,7 +2,7 @@
 use mathlib.Core.Path.{refl}
 use Rattle.common.specs.Ranges.{within}
 use Rattle.base64url_rules.specs.Alphabet.{value}
-use Rattle.base64url_rules.specs.Tables.{entries, signed, values}
+use Rattle.base64url_rules.proofs.Tables.{entries, signed, values}
 use Rattle.base64url_words.proofs.values.table.Goals as goal
 
 pub returns : goal.returns

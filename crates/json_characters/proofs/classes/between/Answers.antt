@@ -1,6 +1,6 @@
 -- `between` meets its contract.
 use mathlib.Core.Path.{sym}
-use Rattle.json_grammar_rules.specs.ByteLaws.{from_low, below}
+use Rattle.json_grammar_rules.proofs.ByteLaws.{from_low, below}
 use Rattle.json_characters.proofs.classes.between.Goals as goal
 
 pub returns-then-b-lo : goal.returns-then-b-lo

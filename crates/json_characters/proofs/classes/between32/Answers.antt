@@ -1,6 +1,6 @@
 -- `between32` meets its contract.
 use mathlib.Core.Path.{sym}
-use Rattle.json_grammar_rules.specs.ByteLaws.{from_low, below}
+use Rattle.json_grammar_rules.proofs.ByteLaws.{from_low, below}
 use Rattle.json_characters.proofs.classes.between32.Goals as goal
 
 pub returns-then-x-lo : goal.returns-then-x-lo

@@ -1,6 +1,6 @@
 -- `judge_header` meets its contract, by what the header decides.
 use mathlib.Core.Path.{sym, ◌∙◌}
-use Rattle.jose_rules.specs.DecisionLaws.{with_chosen}
+use Rattle.jose_rules.proofs.DecisionLaws.{with_chosen}
 use Rattle.jws.proofs.JudgeLaws as law
 use Rattle.jws.proofs.judging.judge_header.Goals as goal
 

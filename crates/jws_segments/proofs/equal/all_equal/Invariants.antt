@@ -8,9 +8,9 @@ use lib.Bits.{bit_or, bit_xor, or_add_and, and_le_l, and_le_r, xor_add_and, xor_
 use lib.ListN.{get_or}
 use lib.Seq.{ext_get_or}
 use borrow.Author.Count.{below_more}
-use Rattle.common.specs.Decided.{decided}
-use Rattle.common.specs.FirstLaws.{decides_eq, decides_iff}
-use Rattle.common.specs.SameLaws.{decides_same}
+use Rattle.common.proofs.Decided.{decided}
+use Rattle.common.proofs.FirstLaws.{decides_eq, decides_iff}
+use Rattle.common.proofs.SameLaws.{decides_same}
 use Rattle.jws_segments.proofs.equal.all_equal.Given as goal
 
 -- the bytes before i agree

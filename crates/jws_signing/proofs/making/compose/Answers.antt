@@ -1,7 +1,7 @@
 -- `compose` meets its contract: the MAC is taken of the front, and its segment stands behind it.
 use native.Mathlib.Omega.{arith}
 use Rattle.base64url_rules.specs.Base64url.{encode}
-use Rattle.jws_rules.specs.SegmentLaws.{length_dot}
+use Rattle.jws_rules.proofs.SegmentLaws.{length_dot}
 use Rattle.jws_signing.proofs.FrontLaws.{length_text, token_laid}
 use Rattle.jws_signing.proofs.making.compose.Goals as goal
 

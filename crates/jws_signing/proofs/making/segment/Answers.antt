@@ -2,7 +2,7 @@
 use mathlib.Core.Path.{◌∙◌}
 use native.Mathlib.Omega.{arith}
 use lib.ListN.{length-set}
-use Rattle.base64url_rules.specs.LengthLaws.{length_encode}
+use Rattle.base64url_rules.proofs.LengthLaws.{length_encode}
 use Rattle.jws_signing.proofs.FrontLaws.{segment_front}
 use Rattle.jws_signing.proofs.making.segment.Goals as goal
 

@@ -1,7 +1,7 @@
 -- `signing_input` meets its contract: the header's text, and the payload's segment behind it.
 use native.Mathlib.Omega.{arith}
 use Rattle.base64url_rules.specs.Base64url.{encode}
-use Rattle.base64url_rules.specs.LengthLaws.{length_encode}
+use Rattle.base64url_rules.proofs.LengthLaws.{length_encode}
 use Rattle.jws_signing.proofs.FrontLaws.{text_front, front_more}
 use Rattle.jws_signing.proofs.making.signing_input.Goals as goal
 

@@ -2,8 +2,8 @@
 use mathlib.Core.Path.{sym, ◌∙◌}
 use native.Mathlib.Omega.{arith}
 use Rattle.common.specs.First.{fails}
-use Rattle.common.specs.FirstLaws.{decides_eq}
-use Rattle.common.specs.Decided.{decides_by, when_true, when_false}
+use Rattle.common.proofs.FirstLaws.{decides_eq}
+use Rattle.common.proofs.Decided.{decides_by, when_true, when_false}
 use Rattle.keytable_check.proofs.entries.good_entry.Goals as goal
 
 pub returns-then-table-at-lt-ALGORITHMS_END : goal.returns-then-table-at-lt-ALGORITHMS_END

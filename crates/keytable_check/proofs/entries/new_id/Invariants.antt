@@ -5,7 +5,7 @@ use native.Mathlib.Omega.{arith}
 use borrow.Author.Count.{below_more}
 use Rattle.common.specs.First.{holds, fails}
 use Rattle.keytable_rules.specs.Table.{id_of}
-use Rattle.common.specs.Decided.{when_true, when_false}
+use Rattle.common.proofs.Decided.{when_true, when_false}
 use Rattle.keytable_check.proofs.entries.new_id.Given as goal
 
 abbrev pub invariant-loop-i : goal.invariant-loop-i

@@ -6,7 +6,7 @@ use lib.ListN.{length, take}
 use lib.Seq.{take_all, length-paste}
 use Rattle.common.specs.BigEndianLaws.{length_big_endian}
 use Rattle.sha2_rules.specs.Hash.{word_bytes}
-use Rattle.sha2_rules.specs.ValueLaws.{one_word_bytes}
+use Rattle.sha2_rules.proofs.ValueLaws.{one_word_bytes}
 use Rattle.sha256.proofs.digest.digest.Goals as goal
 
 pub loop-i-init : goal.loop-i-init

@@ -5,7 +5,7 @@ use native.Mathlib.Omega.{arith}
 use lib.ListN.{length, length-set}
 use Rattle.common.specs.BigEndianLaws.{length_big_endian}
 use Rattle.sha2_rules.specs.Parameters.{sha_256}
-use Rattle.sha2_rules.specs.PaddedLaws.{modulo, ends, last}
+use Rattle.sha2_rules.proofs.PaddedLaws.{modulo, ends, last}
 use Rattle.sha256.proofs.padding.last_blocks.Goals as goal
 
 pub overflow_sub-end : goal.overflow_sub-end

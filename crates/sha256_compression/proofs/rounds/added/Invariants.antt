@@ -2,7 +2,7 @@
 use Rattle.std.proofs.Common.{◌≡◌, ◌-◌, ◌≤◌, length, take, sym, refl, ◌∙◌, arith, length-set, take_all, rules}
 use Rattle.sha2_rules.specs.Parameters.{sha_256}
 use Rattle.sha2_rules.specs.Compression.{sums}
-use Rattle.sha2_rules.specs.RoundLaws.{one_sum}
+use Rattle.sha2_rules.proofs.RoundLaws.{one_sum}
 use Rattle.sha256_compression.proofs.rounds.added.Given as goal
 
 abbrev pub invariant-loop-i : goal.invariant-loop-i

@@ -2,7 +2,7 @@
 use Rattle.std.proofs.Common.{◌≡◌, ◌+◌, ◌-◌, ◌≤◌, length, take, sym, refl, ◌∙◌, arith, length-set}
 use Rattle.sha2_rules.specs.Parameters.{sha_256}
 use Rattle.sha2_rules.specs.Compression.{schedule}
-use Rattle.sha2_rules.specs.ScheduleLaws.{block_word, one_word}
+use Rattle.sha2_rules.proofs.ScheduleLaws.{block_word, one_word}
 use Rattle.sha256_compression.proofs.schedule.block_words.Goals as goal
 
 pub loop-t-init : goal.loop-t-init

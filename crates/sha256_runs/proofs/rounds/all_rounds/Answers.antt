@@ -3,7 +3,7 @@ use Rattle.std.proofs.Common.{◌≡◌, ℕ, ◌-◌, ◌%◌, ◌≤◌, List,
 use Rattle.sha2_rules.specs.Parameters.{sha_256}
 use Rattle.sha2_rules.specs.Compression.{schedule, rounds}
 use Rattle.sha2_rules.specs.Woven.{Woven, block_of}
-use Rattle.sha2_rules.specs.WovenLaws.{two_woven}
+use Rattle.sha2_rules.proofs.WovenLaws.{two_woven}
 use Rattle.sha256_runs.proofs.rounds.all_rounds.Goals as goal
 
 pub loop-t-init : goal.loop-t-init

@@ -2,7 +2,7 @@
 use Rattle.std.proofs.Common.{◌≡◌, ℕ, ◌-◌, ◌≤◌, List, length, ◌∙◌, subst, arith, length-set}
 use Rattle.sha2_rules.specs.Parameters.{sha_256}
 use Rattle.sha2_rules.specs.Woven.{Woven}
-use Rattle.sha2_rules.specs.WovenLaws.{later_woven_lem, one_woven}
+use Rattle.sha2_rules.proofs.WovenLaws.{later_woven_lem, one_woven}
 use Rattle.sha256_runs.proofs.schedules.later_words.Goals as goal
 
 pub loop-i-init : goal.loop-i-init

@@ -3,7 +3,7 @@ use Rattle.std.proofs.Common.{◌≡◌, ◌+◌, ◌-◌, ◌*◌, ◌≤◌, l
 use Rattle.common.specs.BigEndianLaws.{number_in_part}
 use Rattle.sha2_rules.specs.Parameters.{sha_256}
 use Rattle.sha2_rules.specs.Woven.{woven_word, Woven}
-use Rattle.sha2_rules.specs.WovenLaws.{one_woven, first_woven}
+use Rattle.sha2_rules.proofs.WovenLaws.{one_woven, first_woven}
 use Rattle.sha256_runs.proofs.schedules.row.Goals as goal
 
 pub loop-l-init : goal.loop-l-init

@@ -1,7 +1,7 @@
 -- `sha256_words::fewer::nested_rotations` meets its contract.
 use mathlib.Core.Path.{◌∙◌}
 use native.Mathlib.Omega.{arith}
-use Rattle.sha2_rules.specs.WordLaws.{nested_rotations}
+use Rattle.sha2_rules.proofs.WordLaws.{nested_rotations}
 use Rattle.sha256_words.proofs.fewer.nested_rotations.Goals as goal
 
 pub returns : goal.returns

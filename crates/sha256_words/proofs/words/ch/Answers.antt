@@ -1,6 +1,6 @@
 -- `sha256_words::words::ch` meets its contract.
 use native.Mathlib.Omega.{arith}
-use Rattle.sha2_rules.specs.WordLaws.{ch_choosing}
+use Rattle.sha2_rules.proofs.WordLaws.{ch_choosing}
 use Rattle.sha256_words.proofs.words.ch.Goals as goal
 
 pub returns : goal.returns

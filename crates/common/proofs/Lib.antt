@@ -1,0 +1,4 @@
+-- Theorems and examples.
+pub mod FirstLaws
+pub mod Decided
+pub mod SameLaws

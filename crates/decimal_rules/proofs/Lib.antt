@@ -1,0 +1,3 @@
+-- Theorems and examples.
+pub mod Examples
+pub mod Examples

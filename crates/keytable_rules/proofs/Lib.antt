@@ -1,0 +1,9 @@
+-- Theorems and examples.
+pub mod KeyLaws
+pub mod TableLaws
+pub mod GoodKeys
+pub mod Examples
+pub mod KeyLaws
+pub mod TableLaws
+pub mod GoodKeys
+pub mod Examples
