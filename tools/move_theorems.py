@@ -42,8 +42,6 @@ def move(crate, modules):
     stays, goes = [], []
     for row in read(f"{folder}/specs/Lib.antt").split("\n"):
         name = re.match(r"(?:pub )?mod (\w+)$", row)
-        if row in goes:
-            continue
         if name and name[1] in modules:
             subprocess.run(["git", "mv", f"{folder}/specs/{name[1]}.antt", f"{folder}/proofs/{name[1]}.antt"], check=True)
             goes.append(row)

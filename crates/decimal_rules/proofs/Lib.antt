@@ -1,3 +1,2 @@
 -- Theorems and examples.
 pub mod Examples
-pub mod Examples

@@ -3,7 +3,3 @@ pub mod AnswerLaws
 pub mod Promises
 pub mod Demand3
 pub mod Rows
-pub mod AnswerLaws
-pub mod Promises
-pub mod Demand3
-pub mod Rows

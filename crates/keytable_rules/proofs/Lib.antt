@@ -3,7 +3,3 @@ pub mod KeyLaws
 pub mod TableLaws
 pub mod GoodKeys
 pub mod Examples
-pub mod KeyLaws
-pub mod TableLaws
-pub mod GoodKeys
-pub mod Examples
