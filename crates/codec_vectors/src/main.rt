@@ -2,22 +2,42 @@
 // the published value. Lines that no crate here computes, comments among them, are passed over.
 #![tactic(auto)]
 
+ghost use Rattle.std.specs.Counts.{IsPrefixLen};
+
+use std::io;
+use std::io::Read;
+
 mod line;
 mod repeat;
 mod text;
 
 // The whole of standard input, up to what the buffer holds.
-fn main() {
+fn main(rt: HostRuntime) -> io::Result<()> {
     let mut buffer = [0u8; 16384];
-    let n = io::read_full(0, &mut buffer);
-    lines(&buffer[0..n]);
+    let n = read_full(&mut rt.reader(), &mut buffer);
+    lines(&rt, &buffer[0..n])
 }
 
-fn lines(s: &[u8]) {
+// Reads until the buffer is full, the input ends or a read fails, and answers how many bytes it put at the buffer's start.
+fn read_full(input: &mut impl Read, buffer: &mut [u8]) -> usize
+    ensures { IsPrefixLen result buffer.new }
+{
+    let mut n: usize = 0;
+    while n < buffer.len() {
+        match input.read(&mut buffer[n..]) {
+            Ok(0) | Err(_) => break,
+            Ok(k) => n += k,
+        }
+    }
+    n
+}
+
+fn lines(rt: &impl Print, s: &[u8]) -> io::Result<()> {
     let mut at: usize = 0;
     while at < s.len() {
-        let end = bytes::scan::find(s, at, s.len(), b'\n');
-        line::run(&s[at..end]);
+        let end = at + text::find(&s[at..], b'\n');
+        line::run(rt, &s[at..end])?;
         at = end + 1;
     }
+    Ok(())
 }

@@ -1,15 +1,33 @@
 // Words, hexadecimal and decimal numbers of a line.
-ghost use Rattle.std.specs.Prelude.{◌<◌, ◌≤◌, length};
+ghost use Rattle.std.specs.Prelude.{◌≡◌, ◌≢◌, ℕ, ◌<◌, ◌≤◌, length, slice_index};
+
+use std::io;
+
+// The place of the first such byte, or the length.
+pub fn find(s: &[u8], byte: u8) -> usize
+    ensures bound { result ≤ length s.now }
+    ensures before { (i : ℕ) → i < result → slice_index s.now i ≢ byte }
+    ensures at { result < length s.now → slice_index s.now result ≡ byte }
+{
+    let mut i: usize = 0;
+    while i < s.len() {
+        if s[i] == byte {
+            return i;
+        }
+        i += 1;
+    }
+    i
+}
 
 // The bytes before the first space.
 pub fn first(s: &[u8]) -> &[u8] {
-    let e = bytes::scan::find(s, 0, s.len(), b' ');
+    let e = find(s, b' ');
     &s[0..e]
 }
 
 // The bytes after the first space.
 pub fn rest(s: &[u8]) -> &[u8] {
-    let e = bytes::scan::find(s, 0, s.len(), b' ');
+    let e = find(s, b' ');
     if e < s.len() {
         let a = e + 1;
         return &s[a..];
@@ -59,15 +77,16 @@ pub fn decimal(s: &[u8]) -> usize
 }
 
 // Writes bytes in hexadecimal, and a hyphen for none.
-pub fn put_hex(s: &[u8]) {
+pub fn put_hex(rt: &impl Print, s: &[u8]) -> io::Result<()> {
     if s.len() == 0 {
-        io::write_all(1, b"-");
+        rt.write_all(b"-")?;
     }
     let mut i: usize = 0;
     while i < s.len() {
-        io::print_hex(1, wide(s[i]), 2);
+        print!(rt; "{:02x}", wide(s[i]))?;
         i += 1;
     }
+    Ok(())
 }
 
 fn wide(x: u8) -> u64 {
@@ -75,9 +94,9 @@ fn wide(x: u8) -> u64 {
 }
 
 // Writes text, and a hyphen for none.
-pub fn put_text(s: &[u8]) {
+pub fn put_text(rt: &impl Print, s: &[u8]) -> io::Result<()> {
     if s.len() == 0 {
-        io::write_all(1, b"-");
+        rt.write_all(b"-")?;
     }
-    io::write_all(1, s);
+    rt.write_all(s)
 }
