@@ -2,13 +2,16 @@
 // or `refused ` and the answer's number.
 #![tactic(auto)]
 
-ghost use Rattle.io.specs.Counts.{IsPrefixLen};
+ghost use Rattle.std.specs.Counts.{IsPrefixLen};
 
 use answers::DONE;
 use json_rules::LONGEST;
 use jws::Verified;
 use jws_rules::TOKEN_MOST;
-use libc::STDOUT_FILENO;
+use std::fs::File;
+use std::io;
+use std::io::Read;
+use std::rt::Files;
 
 // A byte more than the longest table and the longest token, so that a longer file is seen to be longer.
 const TABLE_ROOM: usize = 8193;
@@ -20,58 +23,69 @@ const HEADER_ROOM: usize = LONGEST;
 
 const PAYLOAD_ROOM: usize = TOKEN_MOST / 4 * 3;
 
-fn say(s: &[u8]) {
-    io::write_all(STDOUT_FILENO, s);
+fn say(rt: &impl Print, s: &[u8]) -> io::Result<()> {
+    rt.write_all(s)
 }
 
-fn field(name: &[u8], n: usize) {
-    say(name);
-    io::print_decimal(STDOUT_FILENO, n as u64);
+fn field(rt: &impl Print, name: &[u8], n: usize) -> io::Result<()> {
+    say(rt, name)?;
+    print!(rt; "{n}")
 }
 
-fn print(v: Verified) {
+fn print(rt: &impl Print, v: Verified) -> io::Result<()> {
     let details = v.details;
     let choice = details.choice;
     if v.answer != DONE {
-        field(b"refused ", v.answer as usize);
+        field(rt, b"refused ", v.answer as usize)?;
     } else {
-        field(b"accepted key=", choice.key_index);
-        field(b" fmt=", choice.format as usize);
-        field(b" payload=", details.payload_length);
+        field(rt, b"accepted key=", choice.key_index)?;
+        field(rt, b" fmt=", choice.format as usize)?;
+        field(rt, b" payload=", details.payload_length)?;
     }
-    say(b"\n");
+    say(rt, b"\n")
+}
+
+// Reads until the room is full, the file ends or a read fails, and answers how many bytes it put at the room's start.
+fn read_full(file: &mut impl Read, room: &mut [u8]) -> usize
+    ensures { IsPrefixLen result room.new }
+{
+    let mut n: usize = 0;
+    while n < room.len() {
+        match file.read(&mut room[n..]) {
+            Ok(0) | Err(_) => break,
+            Ok(k) => n += k,
+        }
+    }
+    n
 }
 
 // Whether the file is at its end: there a further read gives no byte. One that failed fails again, or goes on where it stopped.
-fn at_end(fd: i32) -> bool {
+fn at_end(file: &mut impl Read) -> bool {
     let mut next = [0u8; 1];
-    libc::read(fd, &mut next) == 0
+    matches!(file.read(&mut next), Ok(0))
 }
 
 // Reads a file's first bytes, as many as there is room for, and answers how many. A file that can't be opened, or that can't be read to
 // its end, counts as empty: no part of a file is judged as if it were the whole.
-fn load(path: &[u8], room: &mut [u8]) -> usize
+fn load(rt: &impl Files, path: &str, room: &mut [u8]) -> usize
     ensures { IsPrefixLen result room.new }
 {
-    let fd = os::open_read(path);
-    if fd < 0 {
+    let Ok(mut file) = File::open(rt, path) else {
         return 0;
-    }
-    let n = io::read_full(fd, room);
-    let whole = n == room.len() || at_end(fd);
-    libc::close(fd);
-    if whole {
+    };
+    let n = read_full(&mut file, room);
+    if n == room.len() || at_end(&mut file) {
         return n;
     }
     0
 }
 
-fn main() {
+fn main(rt: HostRuntime) -> io::Result<()> {
     let mut table = [0u8; TABLE_ROOM];
     let mut token = [0u8; TOKEN_ROOM];
     let mut header = [0u8; HEADER_ROOM];
     let mut payload = [0u8; PAYLOAD_ROOM];
-    let n = load(b"table.bin", &mut table);
-    let m = load(b"token.txt", &mut token);
-    print(jws::verify(&token[..m], &table[..n], &mut header, &mut payload));
+    let n = load(&rt, "table.bin", &mut table);
+    let m = load(&rt, "token.txt", &mut token);
+    print(&rt, jws::verify(&token[..m], &table[..n], &mut header, &mut payload))
 }
