@@ -13,7 +13,7 @@ COMMANDS = rust/target/release/jws-table rust/target/release/jws-token
 PKGCONFIG = target/jws.pc
 
 # What the archive is proved and compiled from, and what the commands are.
-PROVED := crates.txt $(shell find crates -name '*.rt' -o -name '*.antt')
+PROVED := crates.txt tools/staticlib $(shell find crates -name out -prune -o \( -name '*.rt' -o -name '*.antt' \) -print)
 CALLING := rust/Cargo.toml rust/Cargo.lock rust/tools/aligned_archive.sh rust/tools/archive.rs $(shell find rust/jws/src rust/jws/build.rs rust/jws/Cargo.toml \
     rust/jws-cli/src rust/jws-cli/Cargo.toml -type f)
 
@@ -30,15 +30,14 @@ need = @command -v $(1) >/dev/null || { echo 'make: $(1) is missing: $(2)' >&2; 
 
 all: $(ARCHIVE) $(COMMANDS)
 
-# `rt check` proves crates side by side, which `rt staticlib` doesn't. A line for each crate that is proved; the rest of what the prover
-# says goes to target/make.log, and is shown where it fails.
+# A line for each crate as its check begins; the rest of what the prover says goes to target/make.log, and is shown where it fails.
 $(ARCHIVE): $(PROVED)
 	$(call need,rt,the Rattle kit has it and the library is proved and compiled by it)
-	@echo 'Proving the library and compiling $@ (the first time takes some minutes, with a line for each crate that is proved)'
+	@echo 'Proving the library and compiling $@ (the first time takes some minutes, with a line for each crate as it begins)'
 	@mkdir -p target
 	@rm -f target/make.failed
-	@{ { rt check jws_ffi && rt staticlib jws_ffi; } 2>&1 || : >target/make.failed; } | tee target/make.log | \
-	    while IFS= read -r line; do case $$line in *'(unchanged since it was last proved)') ;; 'rt: '*) printf '  %s\n' "$${line#rt: }" ;; esac; done
+	@{ tools/staticlib jws_ffi 2>&1 || : >target/make.failed; } | tee target/make.log | \
+	    while IFS= read -r line; do case $$line in 'rt: chose --jobs '*) printf '  %s\n' "$${line##* }" ;; esac; done
 	@if [ -e target/make.failed ]; then cat target/make.log; echo 'make: the library is not proved (above, and in target/make.log)' >&2; exit 1; fi
 
 $(COMMANDS) &: $(ARCHIVE) $(CALLING)
@@ -87,7 +86,7 @@ clean:
 help:
 	@echo 'make            prove and compile the archive, compile the commands jws-table and jws-token'
 	@echo 'make run        an example in one go: a key table, a signed setpoint, a forged one refused, the signed one accepted'
-	@echo 'make test       the whole gate (.ci/run): proofs from nothing, must-fail edits, programs, Rust and C tests'
+	@echo 'make test       the whole gate (.ci/run): proofs, must-fail edits, programs, Rust and C tests'
 	@echo 'make nodes      archives for the processors of nodes below target/nodes, and target/nodes/jws.wasm, each with its size'
 	@echo 'make test-nodes runs them on their processors, most of them emulated by qemu, and compares; it says which packages of Debian it lacks'
 	@echo 'make install    lib/libjws.a, include/jws.h, lib/pkgconfig/jws.pc, bin/jws-table and bin/jws-token to PREFIX ($(PREFIX)), below DESTDIR'

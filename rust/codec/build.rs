@@ -1,4 +1,4 @@
-//! Links the archive that `rt staticlib codec_ffi` writes, or the one in the folder that `CODEC_ARCHIVE_DIR` names (an absolute path). Where
+//! Links the archive that `tools/staticlib codec_ffi` writes, or the one in the folder that `CODEC_ARCHIVE_DIR` names (an absolute path). Where
 //! `CODEC_BEFORE` names an earlier archive (an absolute path), that is linked too, in the same way, and `codec_before` is set.
 
 #[path = "../tools/archive.rs"]

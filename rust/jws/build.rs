@@ -1,4 +1,4 @@
-//! Links the archive that `rt staticlib jws_ffi` writes, or one in the folder that `JWS_ARCHIVE_DIR` names (an absolute path), where it may
+//! Links the archive that `tools/staticlib jws_ffi` writes, or one in the folder that `JWS_ARCHIVE_DIR` names (an absolute path), where it may
 //! have the name that `make install` gives it. Where `JWS_BEFORE` names an earlier archive (an absolute path), that is linked too, in the
 //! same way, and `jws_before` is set: `benches/tokens.rs` times it.
 

@@ -1,4 +1,4 @@
-//! Where a build script finds an archive that `rt staticlib` writes, and how it links it.
+//! Where a build script finds an archive that `tools/staticlib` writes, and how it links it.
 
 use std::path::{Path, PathBuf};
 use std::process::{exit, Command};
@@ -76,7 +76,7 @@ fn end(message: &str) -> ! {
 
 fn missing(name: &str, files: &[&str], folder: &Path, variable: &str) -> String {
     format!(
-        "The proved archive isn't there: {} was looked for in {}.\nRun `make`, or `rt staticlib {name}`, in the repository's root; or \
+        "The proved archive isn't there: {} was looked for in {}.\nRun `make`, or `tools/staticlib {name}`, in the repository's root; or \
          name the folder that has it in {variable}.",
         files.join(" or "),
         folder.display()

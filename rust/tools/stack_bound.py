@@ -1,7 +1,7 @@
 #!/usr/bin/env python3
 """Bounds the stack of the exported functions by the object code.
 
-    rt staticlib jws_ffi
+    tools/staticlib jws_ffi
     python3 rust/tools/stack_bound.py target/staticlib/libjws_ffi.a
 
 A function's frame is its return address, what it pushes and what it takes off the stack pointer; a call path takes the sum of its
