@@ -19,7 +19,7 @@ fn output(folder: &str, table: Option<&[u8]>, token: Option<&[u8]>) -> String {
 
 /// The same with these variables in its environment.
 fn output_with(folder: &str, table: Option<&[u8]>, token: Option<&[u8]>, variables: &[(&str, &str)]) -> String {
-    let program = Path::new(HERE).join("../../target/bin/verify_token");
+    let program = Path::new(HERE).join("../../crates/verify_token/out/verify_token");
     assert!(program.exists(), "{} isn't there: run `rt ci` first", program.display());
     let folder = PathBuf::from(env!("CARGO_TARGET_TMPDIR"))
         .join("verify_token")
