@@ -17,8 +17,8 @@ import re
 import sys
 from dataclasses import dataclass
 
-from kit import CRATE, HERE, KIT_WORDS, OUT, ROOT, Kit, contents, proved_module, run
-from module import Module, Refused
+from kit import COMMON_WORDS, CRATE, HERE, OUT, ROOT, Kit, contents, proved_module, run
+from module import PROBES, Module, Refused
 
 sys.path.append(os.path.join(ROOT, "rust", "tools"))
 import elf  # noqa: E402
@@ -27,7 +27,7 @@ from stack_bound import bounds  # noqa: E402
 INCLUDE = os.path.join(ROOT, "include")
 
 # Of the kit's words, what any target is compiled with. The module names no target then, and is given one.
-COMMON_WORDS = KIT_WORDS[2:13] + ["-Wno-override-module"]
+WORDS = [*COMMON_WORDS, "-Wno-override-module"]
 
 # Loops aren't unrolled. A node's memory is small, and unrolled they take 5,500 bytes more on a Cortex-M4 for a seventh fewer instructions; and
 # the comparison of the signature is a loop: unrolled, it became a chain of branches for riscv64gc, with an exit at the first difference.
@@ -121,7 +121,7 @@ def for_target(kit, target, text, module, include=INCLUDE):
             raise Refused(f"the module defines {name} {changes} times")
     text = re.sub(r"^target (datalayout|triple) = .*\n", "", text, flags=re.M)
     text = text.replace(' "target-cpu"="x86-64"', "")
-    return (text if target.probe else text.replace(' "probe-stack"="inline-asm"', "")) + target.added
+    return (text if target.probe else text.replace(PROBES, "")) + target.added
 
 
 def compiled(kit, target, text, module):
@@ -131,7 +131,7 @@ def compiled(kit, target, text, module):
     with open(os.path.join(folder, "module.ll"), "w", encoding="utf-8") as file:
         file.write(for_target(kit, target, text, module))
     object_ = os.path.join(folder, f"{CRATE}.o")
-    kit.clang([*target.words, *COMMON_WORDS, "-c", "-x", "ir", "module.ll", "-o", object_], cwd=folder)
+    kit.clang([*target.words, *WORDS, "-c", "-x", "ir", "module.ll", "-o", object_], cwd=folder)
     if target.name == "wasm":
         return linked_wasm(kit, object_, [name.lstrip("@") for name in module.exported])
     compiled_ = elf.Object(object_)
@@ -161,7 +161,7 @@ def stack_bounds(kit, target, archive):
         return bounds(archive)
     folder = os.path.dirname(archive)
     sizes = os.path.join(folder, "stack_sizes.o")
-    kit.clang([*target.words, *COMMON_WORDS, "-fstack-size-section", "-c", "-x", "ir", "module.ll", "-o", sizes], cwd=folder)
+    kit.clang([*target.words, *WORDS, "-fstack-size-section", "-c", "-x", "ir", "module.ll", "-o", sizes], cwd=folder)
     if text_of(sizes) != text_of(os.path.join(folder, f"{CRATE}.o")):
         raise Refused(f"{target.name}: other code comes out where the compiler is asked for the frames' sizes")
     return bounds(sizes)
@@ -169,16 +169,24 @@ def stack_bounds(kit, target, archive):
 
 # Bytes of stack in the module's memory, below everything else: to run over is to trap. The deepest headers took less than a fifth of it.
 WASM_STACK = 16_384
-WASM_DATA = 11
+WASM_DATA, WASM_AT = 11, b"\x00\x41"
 
 
-def wasm_sections(path):
-    """The numbers of the sections of a module of WebAssembly."""
-    data, at = contents(path)[0], 8
+def wasm_data(path):
+    """How many bytes a module of WebAssembly writes to its memory before any call: those of its segments of data."""
+    data, at, found = contents(path)[0], 8, 0
     while at < len(data):
         length, after = elf.leb128(data, at + 1)
-        yield data[at]
+        if data[at] == WASM_DATA:
+            segments, place = elf.leb128(data, after)
+            for _ in range(segments):
+                if data[place:place + 2] != WASM_AT:
+                    raise Refused(f"{os.path.basename(path)} has data of a form that isn't known")
+                _, place = elf.leb128(data, place + 2)  # where it goes, and the end of that
+                size, place = elf.leb128(data, place + 1)
+                found, place = found + size, place + size
         at = after + length
+    return found
 
 
 def linked_wasm(kit, object_, names):
@@ -187,7 +195,7 @@ def linked_wasm(kit, object_, names):
     words = ["--no-entry", "--stack-first", "-z", f"stack-size={WASM_STACK}", "--strip-all", *(f"--export={name}" for name in names),
              "--export=__heap_base", "--export=__stack_pointer"]
     run(["wasm-ld", *words, object_, "-o", out], executable=kit.tool("ld.lld"))
-    if WASM_DATA in wasm_sections(out):
+    if wasm_data(out):
         raise Refused("jws.wasm has data: its users may clear all of its memory")
     return out, f"{os.path.getsize(out):,} bytes, calls nothing"
 

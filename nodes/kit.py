@@ -7,6 +7,7 @@ import re
 import shlex
 import shutil
 import subprocess
+import tempfile
 from dataclasses import dataclass
 
 from module import Refused
@@ -17,12 +18,14 @@ OUT = os.path.join(ROOT, "target", "nodes")
 CRATE = "jws_ffi"
 ARCHIVE = os.path.join(ROOT, "target", "staticlib", f"lib{CRATE}.a")
 
-# What the kit calls its compiler with, but for the names of files and folders.
-KIT_WORDS = [
-    "--target=x86_64-unknown-linux-gnu", "-march=x86-64", "-ffunction-sections", "-fdata-sections", "-mllvm", "-trap-unreachable",
-    "-mllvm", "-no-trap-after-noreturn", "--no-default-config", "-no-canonical-prefixes", "-fintegrated-cc1", "-fno-crash-diagnostics",
-    "-Werror", "-c", "-x", "ir", "IN", "-o", "OUT", "-fPIC", "-O3", "--sysroot=FOLDER",
+# What the kit calls its compiler with, but for the names of files and folders. Some switch off passes that compile correct code wrongly.
+TARGET_WORDS = ["--target=x86_64-unknown-linux-gnu", "--sysroot=FOLDER", "-march=x86-64"]
+COMMON_WORDS = [
+    "-mllvm", "-no-trap-after-noreturn", "-ffunction-sections", "-fdata-sections", "-mllvm", "-trap-unreachable",
+    "-mllvm", "-no-x86-call-frame-opt", "-mllvm", "-disable-machine-licm", "-mllvm", "-disable-postra-machine-licm",
+    "-mllvm", "-sink-common-insts=false", "--no-default-config", "-no-canonical-prefixes", "-fintegrated-cc1", "-fno-crash-diagnostics", "-Werror",
 ]
+KIT_WORDS = [*TARGET_WORDS, *COMMON_WORDS, "-c", "-x", "ir", "IN", "-o", "OUT", "-fPIC", "-O3"]
 
 
 def run(words, **settings):
@@ -47,8 +50,8 @@ class Kit:
     def found(cls):
         if shutil.which("rt") is None:
             raise Refused("rt is missing: the Rattle kit has it, and the library is proved and compiled by it")
-        home = os.path.dirname(os.path.dirname(run(["rt", "doc"]).strip()))
-        kit = cls(home, os.path.join(home, "on", os.uname().machine, "toolchain"))
+        home = os.path.dirname(run(["rt", "doc"]).strip())
+        kit = cls(home, os.path.join(home, "toolchain"))
         for name in ("clang", "llvm-ar", "ld.lld"):
             if not os.path.exists(kit.tool(name)):
                 raise Refused(f"the kit at {home} has its tools elsewhere than known: there is no {kit.tool(name)}")
@@ -70,21 +73,29 @@ exec {clang} "$@"
 """
 
 
-def keeping_kit(kit):
-    """A folder of links to the kit, with a compiler that keeps what it is given."""
-    folder = os.path.join(OUT, "kit")
-    shutil.rmtree(folder, ignore_errors=True)
-    real, here = kit.home, folder
-    for part in os.path.relpath(kit.tool("clang"), kit.home).split(os.sep):
-        os.mkdir(here)
-        for name in os.listdir(real):
-            if name != part:
-                os.symlink(os.path.join(real, name), os.path.join(here, name))
-        real, here = os.path.join(real, part), os.path.join(here, part)
-    with open(here, "w", encoding="utf-8") as script:
-        script.write(KEEPING.format(out=shlex.quote(OUT), clang=shlex.quote(real)))
-    os.chmod(here, 0o755)
-    return folder
+def linked(real, here, but):
+    """A folder with links to all that another holds but for these names."""
+    os.mkdir(here)
+    for name in sorted(set(os.listdir(real)) - set(but)):
+        os.symlink(os.path.join(real, name), os.path.join(here, name))
+
+
+def keeping_kit(kit, folder):
+    """A folder of links to the kit, with a compiler that keeps what it is given; gives the folder of its commands."""
+    linked(kit.home, folder, ["bin", "toolchain"])
+    # rt takes the kit from around its own files: these are no links.
+    own, commands = ["rt", "rtlib.py"], os.path.join(folder, "bin")
+    linked(os.path.join(kit.home, "bin"), commands, own)
+    for name in own:
+        shutil.copy(os.path.join(kit.home, "bin", name), commands)
+    linked(kit.tools, os.path.join(folder, "toolchain"), ["bin"])
+    tools = os.path.join(folder, "toolchain", "bin")
+    linked(os.path.join(kit.tools, "bin"), tools, ["clang"])
+    compiler = os.path.join(tools, "clang")
+    with open(compiler, "w", encoding="utf-8") as script:
+        script.write(KEEPING.format(out=shlex.quote(OUT), clang=shlex.quote(kit.tool("clang"))))
+    os.chmod(compiler, 0o755)
+    return commands
 
 
 def proved_module(kit):
@@ -93,14 +104,17 @@ def proved_module(kit):
         if os.path.exists(os.path.join(OUT, name)):
             os.remove(os.path.join(OUT, name))
     before = contents(ARCHIVE)
-    said = run(["rt", "staticlib", CRATE], cwd=ROOT, env={**os.environ, "RATTLE_HOME": keeping_kit(kit)})
+    with tempfile.TemporaryDirectory() as room:  # elsewhere: rt ci refuses a repository with links in it
+        path = os.pathsep.join([keeping_kit(kit, os.path.join(room, "kit")), os.environ["PATH"]])
+        said = run([os.path.join(ROOT, "tools", "staticlib"), CRATE], env={**os.environ, "PATH": path})
     if before and before[0] == contents(ARCHIVE)[0]:
         os.utime(ARCHIVE, ns=before[1])  # the same bytes: what was made of them isn't out of date
-    if not re.search(r"^logic=proved functions=\d+ ", said, re.M):
-        raise Refused(f"rt staticlib {CRATE} didn't say that the crate is proved")
+    # Of a static library the last line names its target, and no processor where it runs on all of them.
+    if not re.search(r"^logic=proved functions=\d+ target=x86_64-unknown-linux-gnu sum=\S+ .*\n\Z", said, re.M):
+        raise Refused(f"rt lib of {CRATE} didn't say that the crate is proved, for every x86-64")
     check_words()
     text_file = os.path.join(OUT, "module.ll")
-    kit.clang([*KIT_WORDS[:2], "-Xclang", "-disable-llvm-passes", "-S", "-emit-llvm", "-x", "ir", "module.bc", "-o", text_file], cwd=OUT)
+    kit.clang([TARGET_WORDS[0], TARGET_WORDS[2], "-Xclang", "-disable-llvm-passes", "-S", "-emit-llvm", "-x", "ir", "module.bc", "-o", text_file], cwd=OUT)
     check_object(kit)
     with open(text_file, encoding="utf-8") as text:
         return text.read()
@@ -122,8 +136,9 @@ def check_words():
     if len(calls) != 1:
         raise Refused(f"the kit compiled {len(calls)} modules, and not one")
     words = calls[0].split("\n")
-    known = [word if word not in ("IN", "OUT") else words[at] if at < len(words) else "" for at, word in enumerate(KIT_WORDS[:-1])]
-    if words[:-1] != known or not words[-1].startswith("--sysroot="):
+    alike = [word == known or known in ("IN", "OUT") or known == "--sysroot=FOLDER" and word.startswith("--sysroot=")
+             for word, known in zip(words, KIT_WORDS)]
+    if len(words) != len(KIT_WORDS) or not all(alike):
         raise Refused(f"the kit calls its compiler with other words than the known ones: {' '.join(words)}")
 
 

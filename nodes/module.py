@@ -10,7 +10,8 @@ means the same with shorter pointers if a pointer is nowhere taken for a number.
 and none of them turns one into the other; what is left is memory that is written as the one and read as the other. So each piece of memory
 is followed through every function: what a pointer may point to is one object, and copies and calls make objects one (points-to analysis by
 unification). In no object may a pointer's eight bytes overlap a number, a filled range, a part of a copy, or a place that isn't constant;
-and a variable that is a pointer, and so narrower on such a processor, may be nothing else. What C lends may hold no pointer.
+and a variable that is a pointer, and so narrower on such a processor, may be nothing else. What C lends may hold no pointer. Zeros alone may
+be filled in over the whole of a pointer: four of them or eight, they are the pointer to nothing, which a pointer may be compared with.
 
 Every other form is refused with its line: it may be right, but nobody has looked.
 """
@@ -19,7 +20,9 @@ import sys
 
 LAYOUT = "e-m:e-p270:32:32-p271:32:32-p272:64:64-i64:64-i128:128-f80:128-n8:16:32:64-S128"
 TRIPLE = "x86_64-unknown-linux-gnu"
-ATTRIBUTES = '{ nounwind "probe-stack"="inline-asm" "target-cpu"="x86-64" }'
+# How a function touches each page of a large frame.
+PROBES = ' "probe-stack"="inline-asm" "stack-probe-size"="3072"'
+ATTRIBUTES = f'{{ nounwind{PROBES} "target-cpu"="x86-64" }}'
 POINTER = 8
 
 
@@ -34,7 +37,7 @@ class Object:
         self.name, self.root, self.shift = name, None, 0
         self.pointers = {}  # place: the place in an object that a pointer stored here points to
         self.numbers = set()  # place, bytes
-        self.edges = set()  # places that may not lie within a pointer: where a copy begins or ends
+        self.edges = set()  # places that may not lie within a pointer: where a copy or a filling with zeros begins or ends
         self.varying = False  # is also reached at places that aren't constant
         self.narrow = False  # is as wide as a pointer of the target, and no wider
 
@@ -88,6 +91,9 @@ def number(place, count):
 NAME = r'@(?:"[^"]+"|[\w.]+)'
 INT = r"i(?:1|8|16|32|64)"
 VALUE = r"(?:%[\w.]+|-?\d+|true|false)"
+GIVEN = rf"(?:{VALUE}|@static\.\d+)"
+PAIR = rf"\{{ (?:{INT}|ptr), (?:{INT}|ptr) \}}"
+RESULT = rf"(?:void|{INT}|ptr|{PAIR})"
 BINARY = r"(?:add|sub|mul|udiv|urem|sdiv|srem|and|or|xor|shl|lshr|ashr)"
 NOTES = r"(?:, !\w+ !\d+)*"
 
@@ -95,32 +101,36 @@ FORMS = {
     name: re.compile(pattern)
     for name, pattern in {
         "alloca": rf"(%r\d+) = alloca (\[\d+ x i8\]|{INT}|ptr), align \d+",
-        "load": rf"(%r\d+) = load ({INT}|ptr), ptr (%[ra]\d+), align (\d+){NOTES}",
-        "store": rf"store ({INT}|ptr) ({VALUE}), ptr (%[ra]\d+), align (\d+)",
+        "load": rf"(%r\d+) = load ({INT}|ptr|{PAIR}), ptr (%[ra]\d+), align (\d+){NOTES}",
+        "store": rf"store ({INT}|ptr) ({GIVEN}), ptr (%[ra]\d+), align (\d+)",
         "offset": rf"(%r\d+) = getelementptr (?:inbounds nuw )?i8, ptr (%[ra]\d+), i64 ({VALUE})",
         "copy": r"call void @llvm\.memmove\.p0\.p0\.i64\(ptr (%[ra]\d+), ptr (%[ra]\d+), i64 (\d+), i1 false\)",
-        "fill": r"call void @llvm\.memset\.p0\.i64\(ptr (%[ra]\d+), i8 \d+, i64 (\d+), i1 false\)",
-        "call": rf"(?:%r\d+ = )?call (?:void|{INT}) ({NAME})\((.*)\)",
+        "fill": r"call void @llvm\.memset\.p0\.i64\(ptr (%[ra]\d+), i8 (\d+), i64 (\d+), i1 false\)",
+        "call": rf"(?:(%r\d+) = )?call ({RESULT}) ({NAME})\((.*)\)",
+        "part": rf"(%r\d+) = extractvalue ({PAIR}) (%r\d+), ([01])",
         "binary": rf"%r\d+ = {BINARY}(?: nuw| nsw| exact)* {INT} {VALUE}, {VALUE}",
-        "compare": rf"%r\d+ = icmp \w+ {INT} {VALUE}, {VALUE}",
+        "compare": rf"%r\d+ = icmp (?:\w+ {INT} {VALUE}, {VALUE}|(?:eq|ne) ptr %[ra]\d+, null)",
         "convert": rf"%r\d+ = (?:zext|sext|trunc)(?: nuw| nsw| nneg)* {INT} {VALUE} to {INT}",
         "jump": rf"br (?:label %[\w.]+|i1 {VALUE}, label %[\w.]+, label %[\w.]+)",
         "switch": rf"switch {INT} {VALUE}, label %[\w.]+ \[|{INT} -?\d+, label %[\w.]+|\]",
-        "return": rf"ret (?:void|{INT} {VALUE})",
+        "give": rf"ret (?:void|({INT}|ptr|{PAIR}) ({VALUE}))",
         "unreachable": "unreachable",
     }.items()
 }
 LABEL = re.compile(r"[\w.]+:(?: +; (?:preds = .*|No predecessors!))?")
-DEFINE = re.compile(rf"define (internal )?(?:noundef (?:zeroext )?)?(void|{INT}) ({NAME})\((.*)\) #0 \{{")
-PARAMETER = re.compile(rf"({INT}|ptr) noundef (?:zeroext )?(%a\d+)")
-ARGUMENT = re.compile(rf"({INT}|ptr) (?:zeroext )?({VALUE})")
+DEFINE = re.compile(rf"define (internal )?(?:noundef (?:zeroext )?)?({RESULT}) ({NAME})\((.*)\) #0 \{{")
+PARAMETER = re.compile(rf"({INT}|ptr) (?:noundef )?(?:zeroext )?(%a\d+)")
+ARGUMENT = re.compile(rf"({INT}|ptr) (?:zeroext )?({GIVEN})")
+EMPTY = re.compile(r"(@static\.\d+) = private unnamed_addr constant \[0 x i8\] zeroinitializer, align [1248]")
 OTHER = re.compile(
     r'|;.*|source_filename = "rattle"|!llvm\.ident = !\{!\d+\}|!\d+ = !\{(?:|i8 0, i8 2|!"rattle logic=[0-9a-f]+")\}'
-    r"|declare void @llvm\.memmove\.p0\.p0\.i64\(ptr writeonly captures\(none\), ptr readonly captures\(none\), i64, i1 immarg\) #1"
-    r"|declare void @llvm\.memset\.p0\.i64\(ptr writeonly captures\(none\), i8, i64, i1 immarg\) #2"
-    r"|attributes #1 = \{ nocallback nofree nounwind willreturn memory\(argmem: readwrite\) \}"
-    r"|attributes #2 = \{ nocallback nofree nounwind willreturn memory\(argmem: write\) \}"
 )
+# What fills and copies memory, and what the compiler may know of it.
+INTRINSICS = {
+    "declare void @llvm.memmove.p0.p0.i64(ptr writeonly captures(none), ptr readonly captures(none), i64, i1 immarg)": "readwrite",
+    "declare void @llvm.memset.p0.i64(ptr writeonly captures(none), i8, i64, i1 immarg)": "write",
+}
+KNOWN = "{{ nocallback nofree nounwind willreturn memory(argmem: {}) }}"
 
 
 def parts(pattern, text, line):
@@ -138,6 +148,8 @@ class Module:
         self.objects = []
         self.exported = {}  # the exported functions: what each returns and the types of its arguments
         self.parameters = {}
+        self.results = {}  # of each function the type, and where each pointer of it points to
+        self.empty = {}  # where a list without bytes stands
         self.instructions = 0
         body = self.heads(text.splitlines())
         for name, lines in body.items():
@@ -160,7 +172,7 @@ class Module:
 
     def heads(self, lines):
         """Reads what stands outside of functions, and gives the numbered lines of each function."""
-        body, current, seen = {}, None, set()
+        body, current, seen, declared = {}, None, set(), {}
         for number_, line in enumerate(lines, 1):
             if current is not None:
                 if line == "}":
@@ -172,7 +184,10 @@ class Module:
                 body[current] = []
                 arguments = parts(PARAMETER, arguments, number_)
                 self.parameters[current] = [(name, (self.new(f"{current} {name}"), 0) if kind == "ptr" else None) for kind, name in arguments]
+                self.results[current] = (result, [(self.new(current), 0) if kind == "ptr" else None for kind in kinds(result)])
                 if internal is None:
+                    if result != "void" and not re.fullmatch(INT, result):
+                        raise Refused(f"line {number_}: C is given {result} by {current}")
                     self.exported[current] = (result, [kind for kind, _ in arguments])
             elif match := re.fullmatch(r'target (datalayout|triple) = "(.*)"|attributes #0 = (.*)', line):
                 what = match[1] or "attributes"
@@ -180,6 +195,13 @@ class Module:
                 if (match[2] or match[3]) != expected:
                     raise Refused(f"line {number_}: another {what} than the known one: {line}")
                 seen.add(what)
+            elif match := EMPTY.fullmatch(line):
+                self.empty[match[1]] = (self.new(match[1]), 0)
+            elif (match := re.fullmatch(r"(declare .*) #(\d)", line)) and match[1] in INTRINSICS:
+                declared[match[2]] = KNOWN.format(INTRINSICS[match[1]])
+            elif match := re.fullmatch(r"attributes #(\d) = (.*)", line):
+                if declared.get(match[1]) != match[2]:
+                    raise Refused(f"line {number_}: another attributes than the known ones: {line}")
             elif not OTHER.fullmatch(line):
                 raise Refused(f"line {number_}: a form that isn't known: {line}")
         if missing := {"datalayout", "triple", "attributes"} - seen:
@@ -187,7 +209,8 @@ class Module:
         return body
 
     def function(self, name, lines):
-        places = {parameter: place for parameter, place in self.parameters[name] if place}
+        places = {**self.empty, **{parameter: place for parameter, place in self.parameters[name] if place}}
+        self.current = name
         for number_, line in lines:
             text = line.strip()
             if not text or LABEL.fullmatch(text):
@@ -208,12 +231,16 @@ class Module:
         places[result][0].narrow = kind == "ptr"
 
     def load(self, places, where, result, kind, source, alignment):
-        if kind == "ptr":
-            aligned(where, alignment)
-            places[result] = pointed(places[source], where)
-            self.objects.append(places[result][0])
-        else:
-            number(places[source], size_of(kind))
+        node, offset = places[source]
+        for part, (each, at) in enumerate(zip(kinds(kind), starts(kind, where))):
+            place = (node, None if offset is None else offset + at)
+            if each == "ptr":
+                aligned(where, alignment)
+                target = pointed(place, where)
+                self.objects.append(target[0])
+                places[result if kind == "ptr" else (result, part)] = target
+            else:
+                number(place, size_of(each))
 
     def store(self, places, where, kind, value, target, alignment):
         if kind == "ptr":
@@ -233,25 +260,45 @@ class Module:
         self.ends(places, source, count)
         join(places[target], places[source])
 
-    def fill(self, places, _, target, count):
-        number(places[target], int(count))
+    def fill(self, places, _, target, value, count):
+        if int(value) == 0 and find(places[target])[1] is not None:
+            self.ends(places, target, count)
+        else:
+            number(places[target], int(count))
 
     def ends(self, places, name, count):
         node, offset = find(places[name])
         if offset is not None:
             node.edges |= {offset, offset + int(count)}
 
-    def call(self, places, where, callee, arguments):
+    def part(self, places, where, result, kind, pair, part):
+        if kinds(kind)[int(part)] == "ptr":
+            places[result] = places[pair, int(part)]
+
+    def give(self, places, where, kind, value):
+        result, targets = self.results[self.current]
+        if (kind or "void") != result:
+            raise Refused(f"{where}: {kind} is given back, and not {result}")
+        for part, target in enumerate(targets):
+            if target is not None:
+                join(target, places[value if kind == "ptr" else (value, part)])
+
+    def call(self, places, where, result, kind, callee, arguments):
         if callee not in self.parameters:
             raise Refused(f"{where}: a call of {callee}, which the module doesn't define")
         given = parts(ARGUMENT, arguments, where)
         if len(given) != len(self.parameters[callee]):
             raise Refused(f"{where}: a call of {callee} with {len(given)} arguments")
-        for (kind, value), (name, place) in zip(given, self.parameters[callee]):
-            if (kind == "ptr") != (place is not None):
+        for (each, value), (name, place) in zip(given, self.parameters[callee]):
+            if (each == "ptr") != (place is not None):
                 raise Refused(f"{where}: {value} as {name} of {callee}: a pointer and a number")
             if place is not None:
                 join(place, places[value])
+        given_back, targets = self.results[callee]
+        if given_back != kind:
+            raise Refused(f"{where}: {callee} gives {given_back} back, and not {kind}")
+        if result is not None:
+            places.update({result if kind == "ptr" else (result, part): target for part, target in enumerate(targets) if target is not None})
 
     def check_lent(self, name):
         """What C lends has C's layout, in which pointers are narrower: it may hold none."""
@@ -264,19 +311,36 @@ def nothing(*_):
     """An instruction on numbers alone, or one that goes elsewhere: no memory, no pointer."""
 
 
-def size_of(kind):
-    return max(1, int(kind[1:]) // 8)
+def size_of(kind, pointer=POINTER):
+    return pointer if kind == "ptr" else max(1, int(kind[1:]) // 8)
+
+
+def kinds(result):
+    """The types of a pair's parts, or of what is no pair."""
+    return [] if result == "void" else result.strip("{ }").split(", ")
+
+
+def starts(kind, where):
+    """Where the parts of a type begin. A pair whose second part lies elsewhere where pointers are shorter is refused."""
+    if len(kinds(kind)) == 1:
+        return [0]
+    first, second = kinds(kind)
+    places = {-(-size_of(first, pointer) // size_of(second, pointer)) * size_of(second, pointer) for pointer in (POINTER // 2, POINTER)}
+    if len(places) > 1:
+        raise Refused(f"{where}: {kind} has its second part elsewhere where pointers are shorter")
+    return [0, *places]
 
 
 def aligned(where, alignment):
-    if int(alignment) != POINTER:
+    """Refuses a pointer that stands elsewhere than at a multiple of its size; one that is said to stand anywhere may stand there."""
+    if int(alignment) not in (1, POINTER):
         raise Refused(f"{where}: a pointer that stands at a multiple of {alignment} bytes, and not of {POINTER}")
 
 
 def check(node):
     """Refuses an object in which a pointer's bytes are also something else."""
     if node.narrow and (node.edges or node.numbers or node.varying):
-        raise Refused(f"memory of {node.name}: it is as wide as a pointer, and is copied as bytes, holds a number or is reached at any place")
+        raise Refused(f"memory of {node.name}: it is as wide as a pointer, and is copied or filled as bytes, holds a number or is reached at any place")
     if node.varying and node.pointers:
         raise Refused(f"memory of {node.name}: it holds a pointer and is reached at places that aren't constant")
     for at in node.pointers:
@@ -290,7 +354,7 @@ def check(node):
                 raise Refused(f"memory of {node.name}: pointers at places {at} and {other}")
         for edge in node.edges:
             if at < edge < at + POINTER:
-                raise Refused(f"memory of {node.name}: a pointer at place {at}, and a copy of a part of it")
+                raise Refused(f"memory of {node.name}: a pointer at place {at}, and a copy or filling of a part of it")
 
 
 FRAME = f"""target datalayout = "{LAYOUT}"
@@ -311,6 +375,11 @@ start:
   %r1 = load i8, ptr %r0, align 1, !noundef !1
   ret void
 }}
+define internal {{ ptr, i64 }} @slice(ptr noundef %a0) #0 {{
+start:
+  %r0 = load {{ ptr, i64 }}, ptr %a0, align 8
+  ret {{ ptr, i64 }} %r0
+}}
 attributes #0 = {ATTRIBUTES}
 !1 = !{{}}
 """
@@ -322,6 +391,7 @@ SLICE = """  %r0 = alloca [16 x i8], align 8
 COPY = SLICE + """  %r2 = alloca [16 x i8], align 8
   call void @llvm.memmove.p0.p0.i64(ptr %r2, ptr %r0, i64 16, i1 false)
 """
+PAIR_OF = "  %r3 = call { ptr, i64 } @slice(ptr %r0)\n  %r4 = extractvalue { ptr, i64 } %r3, 0\n"
 LENGTH = "  %r9 = getelementptr i8, ptr %r2, i64 8\n"
 
 # What a body does, the body, and what the refusal says; None for a body that is right.
@@ -337,20 +407,46 @@ ROWS = [
     ("a number is followed", SLICE + "  call void @follow(ptr %r1)", "and a number of 8 bytes"),
     ("through a pointer to it", COPY + "  %r3 = alloca ptr, align 8\n  store ptr %r2, ptr %r3, align 8\n  %r4 = load ptr, ptr %r3, align 8\n"
      "  %r5 = load i64, ptr %r4, align 8", "a pointer at place 0, and a number"),
-    ("a pointer is made of zeros", SLICE + "  call void @llvm.memset.p0.i64(ptr %r0, i8 0, i64 16, i1 false)", "a number of 16 bytes"),
+    ("a pointer is made of zeros", SLICE + "  call void @llvm.memset.p0.i64(ptr %r0, i8 0, i64 16, i1 false)", None),
+    ("of ones", SLICE + "  call void @llvm.memset.p0.i64(ptr %r0, i8 1, i64 16, i1 false)", "a number of 16 bytes"),
+    ("half of it is", SLICE + "  call void @llvm.memset.p0.i64(ptr %r0, i8 0, i64 4, i1 false)", "filling of a part of it"),
+    ("any of it is", SLICE + "  %r2 = getelementptr i8, ptr %r0, i64 %a1\n"
+     "  call void @llvm.memset.p0.i64(ptr %r2, i8 0, i64 8, i1 false)", "places that aren't constant"),
+    ("its zeros are read", SLICE + "  call void @llvm.memset.p0.i64(ptr %r0, i8 0, i64 16, i1 false)\n  %r2 = load i8, ptr %r0, align 1",
+     "a pointer at place 0, and a number of 1 bytes at 0"),
+    ("a slice at nothing is given a place, as exported functions do it", """  %r0 = icmp eq ptr %a0, null
+  %r1 = zext i1 %r0 to i64
+  %r2 = mul i64 %r1, 4096
+  %r3 = getelementptr i8, ptr %a0, i64 %r2
+  %r4 = alloca [16 x i8], align 8
+  store ptr %r3, ptr %r4, align 8
+  %r5 = load ptr, ptr %r4, align 1
+  %r6 = load i8, ptr %r5, align 1""", None),
     ("half a pointer is copied", SLICE + "  %r2 = alloca [16 x i8], align 8\n"
-     "  call void @llvm.memmove.p0.p0.i64(ptr %r2, ptr %r0, i64 4, i1 false)", "a copy of a part of it"),
+     "  call void @llvm.memmove.p0.p0.i64(ptr %r2, ptr %r0, i64 4, i1 false)", "a copy or filling of a part of it"),
     ("a variable that is a pointer is copied as bytes", "  %r0 = alloca ptr, align 8\n  %r1 = alloca [8 x i8], align 8\n"
      "  call void @llvm.memmove.p0.p0.i64(ptr %r1, ptr %r0, i64 8, i1 false)", "as wide as a pointer"),
     ("it holds a number", "  %r0 = alloca ptr, align 8\n  store i64 %a1, ptr %r0, align 8", "as wide as a pointer"),
     ("it is filled", "  %r0 = alloca ptr, align 8\n  call void @llvm.memset.p0.i64(ptr %r0, i8 0, i64 8, i1 false)", "as wide as a pointer"),
     ("a pointer is read from what C lends", "  %r0 = load ptr, ptr %a0, align 8", "memory that holds a pointer"),
+    ("a slice is given back and followed", SLICE + PAIR_OF + "  %r5 = load i8, ptr %r4, align 1", None),
+    ("what is given back is read as a number", SLICE + PAIR_OF + "  %r5 = alloca [8 x i8], align 8\n  store ptr %r4, ptr %r5, align 8\n"
+     "  %r6 = load i64, ptr %r5, align 8", "a pointer at place 0, and a number"),
+    ("two numbers are given back as a slice", "  %r0 = alloca [16 x i8], align 8\n  store i64 %a1, ptr %r0, align 8\n" + PAIR_OF,
+     "a pointer at place 0, and a number of 8 bytes"),
+    ("where a slice's number stands a pointer is read", SLICE + PAIR_OF + "  %r5 = load ptr, ptr %r1, align 8", "a pointer at place 8, and a number"),
+    ("two numbers are read", "  %r0 = alloca [16 x i8], align 8\n  store i64 %a1, ptr %r0, align 8\n  %r1 = load { i8, i64 }, ptr %r0, align 8", None),
+    ("a pointer behind a short number", "  %r0 = alloca [16 x i8], align 8\n  %r1 = load { i8, ptr }, ptr %r0, align 8", "elsewhere where pointers are shorter"),
+    ("two pointers", "  %r0 = alloca [16 x i8], align 8\n  %r1 = load { ptr, ptr }, ptr %r0, align 8", "elsewhere where pointers are shorter"),
+    ("a slice is taken for two numbers", SLICE + "  %r3 = call { i64, i64 } @slice(ptr %r0)", "gives { ptr, i64 } back"),
+    ("a number is given back for nothing", "  ret i64 %a1", "i64 is given back, and not void"),
     ("a pointer stands at any place", "  %r0 = alloca [64 x i8], align 8\n  %r1 = getelementptr i8, ptr %r0, i64 %a1\n"
      "  store ptr %a0, ptr %r1, align 8", "places that aren't constant"),
     ("two of 4 bytes", SLICE + "  %r2 = getelementptr i8, ptr %r0, i64 4\n  store ptr %a0, ptr %r2, align 4", "multiple of 4 bytes"),
     ("ptrtoint", "  %r0 = ptrtoint ptr %a0 to i64", "a form that isn't known"),
     ("inttoptr", "  %r0 = inttoptr i64 %a1 to ptr", "a form that isn't known"),
     ("pointers are compared", "  %r0 = icmp eq ptr %a0, %a0", "a form that isn't known"),
+    ("a pointer is below another", "  %r0 = icmp ult ptr %a0, null", "a form that isn't known"),
     ("a function that isn't there is called", "  call void @other(ptr %a0)", "doesn't define"),
     ("a number is given for a pointer", "  call void @read(i64 %a1)", "a pointer and a number"),
     ("inline assembly", '  call void asm "nop", ""()', "a form that isn't known"),
@@ -368,14 +464,24 @@ def refusal(text):
 def self_test():
     texts = [(name, FRAME.replace("BODY", body.rstrip("\n")), said) for name, body, said in ROWS]
     plain = FRAME.replace("BODY", "  %r0 = icmp ult i64 %a1, 7")
+    copying, empty = next(iter(INTRINSICS)), "@static.0 = private unnamed_addr constant [0 x i8] zeroinitializer, align 4\n"
     texts += [
         ("another data layout", plain.replace("i64:64", "i64:32"), "another datalayout"),
         ("another triple", plain.replace(TRIPLE, "aarch64-unknown-linux-gnu"), "another triple"),
         ("other attributes", plain.replace("nounwind", "nounwind uwtable"), "another attributes"),
+        ("a pair for C", plain.replace("internal { ptr", "{ ptr"), "C is given"),
         ("no layout", plain[plain.index("\n") + 1:], "no datalayout"),
         ("a flag of the module's", plain + '!llvm.module.flags = !{!1}\n', "a form that isn't known"),
         ("a variable", "@counter = global i64 0\n" + plain, "a form that isn't known"),
+        ("a table", "@static.0 = private unnamed_addr constant [1 x i8] zeroinitializer, align 1\n" + plain, "a form that isn't known"),
+        ("a list without bytes", empty + plain.replace("%a1, 7", "%a1, 7\n" + SLICE.replace("ptr %a0, ptr", "ptr @static.0, ptr").replace("%r0", "%r9")
+                                                      + "  call void @follow(ptr %r9)"), None),
+        ("one that holds a pointer and a number", empty + plain.replace("%a1, 7", "%a1, 7\n  call void @follow(ptr @static.0)\n"
+                                                                       "  call void @read(ptr @static.0)"), "a pointer at place 0"),
         ("a function from elsewhere", "declare ptr @malloc(i64)\n" + plain, "a form that isn't known"),
+        ("a copy is known", f"{copying} #2\n" + plain + f"attributes #2 = {KNOWN.format('readwrite')}\n", None),
+        ("it only writes", f"{copying} #2\n" + plain + f"attributes #2 = {KNOWN.format('write')}\n", "another attributes"),
+        ("attributes of nothing", plain + f"attributes #2 = {KNOWN.format('write')}\n", "another attributes"),
     ]
     for name, text, said in texts:
         got = refusal(text)

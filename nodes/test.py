@@ -194,7 +194,7 @@ def runs_test():
     if [pair for pair in words if pair[0] != pair[1]] != [("true", "false")]:
         raise Refused("the module without runs differs from the module by more than the answer")
     promised = os.path.join(OUT, "promised")
-    write("promised", build.RUNS_OPEN.replace(" {", "\n    ensures { λ r. ⌜ r ≡ true ⌝ }\n{").encode())
+    write("promised", build.RUNS_OPEN.replace(" {", "\n    ensures { result ≡ true }\n{").encode())
     refused, source = 0, build.RUNS_SOURCE
     for wrong, said in ((text.replace("runs_pay", "pay"), source), (text + text, source), (text, promised)):
         build.RUNS_SOURCE = said
