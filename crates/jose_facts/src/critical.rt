@@ -6,6 +6,9 @@ use jose_rules::Crit;
 use json_members::{Slot, first_element, is_array, is_string, item_at};
 use json_string::{End, text_is};
 
+// The one name that is known. It is copied to be lent, as those in members.rt.
+const FMT: [u8; 3] = *b"fmt";
+
 // What `crit` says; `depth` is the depth left for its value.
 pub(crate) fn crit_of(text: &[u8], slot: Slot, depth: usize) -> Crit
     requires { (0 < depth) × ShownAt text.now depth slot }
@@ -38,7 +41,8 @@ fn names_from(text: &[u8], from: usize, depth: usize) -> Crit
             return Crit::Wrong;
         }
         let value = i.value;
-        let is = text_is(text, value.start, b"fmt");
+        let known = FMT;
+        let is = text_is(text, value.start, &known);
         bad = bad_with(is, listed, bad);
         listed = either(is, listed);
         let next = i.next;

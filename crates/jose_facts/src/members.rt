@@ -6,6 +6,19 @@ ghost use Rattle.jose_facts.specs.Known.{name, slot};
 use json_members::{Entry, Slot, entry_at, taken};
 use json_string::End;
 
+// The names. They are copied to be lent: a text that is lent itself would be data of the archive.
+const ALG: [u8; 3] = *b"alg";
+
+const KID: [u8; 3] = *b"kid";
+
+const TYP: [u8; 3] = *b"typ";
+
+const CTY: [u8; 3] = *b"cty";
+
+const CRIT: [u8; 4] = *b"crit";
+
+const FMT: [u8; 3] = *b"fmt";
+
 #[derive(Clone, Copy)]
 pub struct Known {
     pub alg: Slot,
@@ -61,13 +74,19 @@ fn noted(text: &[u8], p: usize, m: Entry, known: Known) -> Known
     let cty = known.cty;
     let crit = known.crit;
     let fmt = known.fmt;
+    let alg_name = ALG;
+    let kid_name = KID;
+    let typ_name = TYP;
+    let cty_name = CTY;
+    let crit_name = CRIT;
+    let fmt_name = FMT;
     Known {
-        alg: taken(text, p, m, b"alg", alg),
-        kid: taken(text, p, m, b"kid", kid),
-        typ: taken(text, p, m, b"typ", typ),
-        cty: taken(text, p, m, b"cty", cty),
-        crit: taken(text, p, m, b"crit", crit),
-        fmt: taken(text, p, m, b"fmt", fmt),
+        alg: taken(text, p, m, &alg_name, alg),
+        kid: taken(text, p, m, &kid_name, kid),
+        typ: taken(text, p, m, &typ_name, typ),
+        cty: taken(text, p, m, &cty_name, cty),
+        crit: taken(text, p, m, &crit_name, crit),
+        fmt: taken(text, p, m, &fmt_name, fmt),
     }
 }
 

@@ -10,6 +10,9 @@ use json_members::{Slot, is_number, is_string, size};
 use json_string::{Resolved, resolve, text_is};
 use keytable::{Found, find};
 
+// The one algorithm. Its name is copied to be lent, as those in members.rt.
+const HS256: [u8; 5] = *b"HS256";
+
 pub(crate) fn alg_of(text: &[u8], slot: Slot) -> Alg
     ensures { FactIs text.now slot alg_fact result }
 {
@@ -17,7 +20,8 @@ pub(crate) fn alg_of(text: &[u8], slot: Slot) -> Alg
         return Alg::Absent;
     };
     if is_string(kind) {
-        if text_is(text, place.start, b"HS256") {
+        let word = HS256;
+        if text_is(text, place.start, &word) {
             return Alg::HS256;
         }
         return Alg::Other;

@@ -8,6 +8,13 @@ use crate::objects::object;
 use json_string::{End, string_end};
 use json_tokens::{number_end, skip_ws, word_end};
 
+// What follows the first letters of the words. They are copied to be lent: a text that is lent itself would be data of the archive.
+const RUE: [u8; 3] = *b"rue";
+
+const ALSE: [u8; 4] = *b"alse";
+
+const ULL: [u8; 3] = *b"ull";
+
 // A value, with white space before and after it.
 // Rules out an answer before the white space after the value, and a value that is deeper than `depth`.
 #[cycle(reading)]
@@ -41,13 +48,16 @@ pub fn bare(s: &[u8], at: usize, depth: usize) -> End
         return object(s, at + 1, depth);
     }
     if b == 0x74 {
-        return word_end(s, at + 1, b"rue");
+        let rest = RUE;
+        return word_end(s, at + 1, &rest);
     }
     if b == 0x66 {
-        return word_end(s, at + 1, b"alse");
+        let rest = ALSE;
+        return word_end(s, at + 1, &rest);
     }
     if b == 0x6E {
-        return word_end(s, at + 1, b"ull");
+        let rest = ULL;
+        return word_end(s, at + 1, &rest);
     }
     number_end(s, at)
 }
