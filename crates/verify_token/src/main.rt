@@ -87,5 +87,8 @@ fn main(rt: HostRuntime) -> io::Result<()> {
     let mut payload = [0u8; PAYLOAD_ROOM];
     let n = load(&rt, "table.bin", &mut table);
     let m = load(&rt, "token.txt", &mut token);
-    print(&rt, jws::verify(&token[..m], &table[..n], &mut header, &mut payload))
+    print(
+        &rt,
+        jws::verify(&token[..m], &table[..n], &mut header, &mut payload),
+    )
 }

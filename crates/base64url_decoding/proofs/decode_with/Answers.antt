@@ -1,6 +1,5 @@
 -- `decode_with` meets its contract: either the bytes are written, or the text is not strict or does not fit, and the buffer is cleared.
-use mathlib.Core.Path.{◌≡◌, ap, sym, ◌∙◌}
-use mathlib.Core.Logic.{⊎_elim}
+use mathlib.Core.Path.{◌≡◌, sym, ◌∙◌}
 use mathlib.Core.Bool.{true, false≢true}
 use Prim.Native.Nat.{◌<◌}
 use native.Mathlib.Omega.{arith}

@@ -1,11 +1,10 @@
 -- `parse`: the answer is that of the digits after the sign.
-use mathlib.Core.Path.{◌≡◌, sym, ap, ◌∙◌}
+use mathlib.Core.Path.{sym, ap, ◌∙◌}
 use mathlib.Core.Bool.{true, false}
 use native.Mathlib.Omega.{arith}
 use mir.Syntax.{w64}
 use mir.ValLaws.{to_z-of_z, to_z_pos}
 use Rattle.decimal_rules.specs.declared.Integer.TheVariants.{Is}
-use Rattle.decimal_rules.specs.Integer.{integer_of}
 use Rattle.decimal.proofs.Laws.{nothing, signed, with_minus, without, at_most}
 use Rattle.decimal.proofs.parse.Goals as goal
 

@@ -1,10 +1,8 @@
 -- `unsigned`: the number so far is at most the bound, and with the digits that are left it gives the answer.
 use borrow.Author.Rules.{rules}
-use mathlib.Core.Path.{◌≡◌, sym, ◌∙◌}
-use Prim.Native.Nat.{◌≤◌, ◌-◌}
-use lib.ListN.{length, drop}
-use Rattle.decimal.specs.Magnitude.{magnitude_of}
-use Rattle.decimal.proofs.Laws.{reach, no_digits, start, end, next, over, below, above}
+use mathlib.Core.Path.{sym, ◌∙◌}
+use Prim.Native.Nat.{◌-◌}
+use Rattle.decimal.proofs.Laws.{no_digits, start, end, next, over, below, above}
 use Rattle.decimal.proofs.unsigned.Goals as goal
 
 pub returns-then-text-eq0 : goal.returns-then-text-eq0

@@ -1,9 +1,9 @@
 -- `unsigned`: the number so far is at most the bound, and with the digits that are left it gives the answer.
-use mathlib.Core.Path.{◌≡◌, sym, ◌∙◌}
+use mathlib.Core.Path.{◌≡◌}
 use Prim.Native.Nat.{◌≤◌, ◌-◌}
 use lib.ListN.{length, drop}
 use Rattle.decimal.specs.Magnitude.{magnitude_of}
-use Rattle.decimal.proofs.Laws.{reach, no_digits, start, end, next, over, below, above}
+use Rattle.decimal.proofs.Laws.{reach}
 use Rattle.decimal.proofs.unsigned.Given as goal
 
 abbrev pub invariant-loop-i : goal.invariant-loop-i

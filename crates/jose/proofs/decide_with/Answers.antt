@@ -1,16 +1,10 @@
 -- `decide_with`: the header is read, and its facts are judged.
-use mathlib.Core.Path.{◌≡◌, sym, ◌∙◌}
+use mathlib.Core.Path.{sym, ◌∙◌}
 use native.Mathlib.Omega.{arith}
-use Rattle.common.specs.First.{first}
-use Rattle.json_rules.specs.Rules.{deepest}
-use Rattle.json_rules.specs.Tests.{grammar_tests}
-use Rattle.json_members.specs.Members.{MembersFrom}
 use Rattle.json_members.specs.StepLaws.{top_members_lem}
-use Rattle.keytable_rules.specs.Table.{keys}
-use Rattle.jose_rules.specs.HeaderTests.{located, header_facts}
 use Rattle.jose_facts.specs.KnownLaws.{all_shown, some_shown, facts_from}
 use Rattle.jose_judging.specs.JudgingLaws.{key_within}
-use Rattle.jose.proofs.HeaderLaws.{inside, top_within, at_top, decision_unread, decision_judged}
+use Rattle.jose.proofs.HeaderLaws.{top_within, at_top, decision_unread, decision_judged}
 use Rattle.jose.proofs.decide_with.Goals as goal
 
 pub returns-then-n-ne-DONE : goal.returns-then-n-ne-DONE

@@ -1,11 +1,11 @@
 -- `count` meets its contract: the reader goes on at each member, and stops where all are counted.
-use Rattle.std.proofs.Common.{◌≡◌, ◌∙◌, ℕ, ◌+◌, ◌<◌, ◌≤◌, List, sym, ap, arith}
+use Rattle.std.proofs.Common.{◌≡◌, ◌∙◌, ℕ, ◌+◌, ◌<◌, List, sym, ap, arith}
 use borrow.Author.Tests.{lt-ltb}
 use Rattle.json_rules.specs.declared.Member.{Member}
 use Rattle.json_rules.specs.Answers.{number_of}
 use Rattle.json_rules.specs.Tests.{member_of}
 use Rattle.json_header_reader.specs.Following.{greatest, following_of}
-use Rattle.json_header_reader.specs.Counting.{ended_at, count_of}
+use Rattle.json_header_reader.specs.Counting.{ended_at}
 use Rattle.json_header_reader.specs.CountLaws.{total, few, goes_on, stops}
 use Rattle.json_header_reader.proofs.count.Goals as goal
 

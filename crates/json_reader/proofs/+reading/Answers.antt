@@ -1,12 +1,9 @@
 -- The readers that call one another meet their contracts.
 use mathlib.Core.Path.{sym, ◌∙◌}
-use Prim.Native.Nat.{ℕ, ◌<◌, ◌≤◌, ◌-◌, ◌*◌, ◌+◌}
+use Prim.Native.Nat.{◌-◌}
 use native.Mathlib.Omega.{arith}
-use lib.ListN.{length}
 use Rattle.json_tokens.specs.TokenLaws.{skips}
 use Rattle.json_reader.specs.ReadLaws.{bare_is}
-use Rattle.json_string.specs.declared.End.{End}
-use Rattle.json_reader.specs.Reads.{ElementsEnd, MembersEnd}
 use Rattle.json_tokens.specs.EndsLaws.{ended, bounds}
 use Rattle.json_reader.proofs.CycleLaws as law
 use Rattle.json_grammar_rules.proofs.Sequences as seq

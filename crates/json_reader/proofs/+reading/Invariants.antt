@@ -1,15 +1,8 @@
 -- At each call the bytes left fall, or else a weight does. A loop keeps that what is right for the rest of a list is right for the whole.
-use mathlib.Core.Path.{sym, ◌∙◌}
-use Prim.Native.Nat.{ℕ, ◌<◌, ◌≤◌, ◌-◌, ◌*◌, ◌+◌}
-use native.Mathlib.Omega.{arith}
+use Prim.Native.Nat.{◌≤◌, ◌-◌, ◌*◌, ◌+◌}
 use lib.ListN.{length}
-use Rattle.json_tokens.specs.TokenLaws.{skips}
-use Rattle.json_reader.specs.ReadLaws.{bare_is}
 use Rattle.json_string.specs.declared.End.{End}
 use Rattle.json_reader.specs.Reads.{ElementsEnd, MembersEnd}
-use Rattle.json_tokens.specs.EndsLaws.{ended, bounds}
-use Rattle.json_reader.proofs.CycleLaws as law
-use Rattle.json_grammar_rules.proofs.Sequences as seq
 use Rattle.json_reader.proofs.+reading.Given as goal
 
 abbrev pub decreases-values::value : goal.decreases-values::value

@@ -1,7 +1,7 @@
 -- `same`: the bytes before i agree, word by word; the last word begins at i or before it.
 use mathlib.Core.Path.{ap, sym, ◌∙◌}
 use mathlib.Core.List.{List}
-use Prim.Native.Nat.{ℕ, ◌≤◌, ◌-◌}
+use Prim.Native.Nat.{ℕ, ◌-◌}
 use native.Mathlib.Omega.{arith}
 use lib.ListN.{length}
 use lib.Seq.{ext_get_or}
@@ -9,9 +9,8 @@ use borrow.Author.Count.{below_none}
 use Rattle.common.specs.First.{fails}
 use Rattle.common.proofs.FirstLaws.{decides_eq}
 use Rattle.common.proofs.Decided.{decides_by}
-use Rattle.common.specs.Bytes.{Bytes}
 use Rattle.common.specs.BytesLaws.{bytes_of}
-use Rattle.common.specs.LittleEndian.{word8, SameTo, same_word8}
+use Rattle.common.specs.LittleEndian.{word8, same_word8}
 use Rattle.keytable_areas.proofs.same.Goals as goal
 
 pub returns-then-n-b : goal.returns-then-n-b

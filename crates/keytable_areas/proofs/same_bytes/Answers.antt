@@ -1,13 +1,12 @@
 -- `same_bytes`: the bytes before i agree.
 use mathlib.Core.Path.{ap}
 use mathlib.Core.List.{List}
-use Prim.Native.Nat.{ℕ, ◌≤◌, ◌-◌}
+use Prim.Native.Nat.{ℕ, ◌-◌}
 use native.Mathlib.Omega.{arith}
-use lib.ListN.{length, get_or}
+use lib.ListN.{get_or}
 use lib.Seq.{ext_get_or}
 use borrow.Author.Count.{below_more}
 use Rattle.common.specs.First.{holds, fails}
-use Rattle.common.specs.LittleEndian.{SameTo}
 use Rattle.keytable_areas.proofs.same_bytes.Goals as goal
 
 pub returns-then-a-i : goal.returns-then-a-i

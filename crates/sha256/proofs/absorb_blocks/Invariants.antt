@@ -1,11 +1,9 @@
 -- `sha256::absorb_blocks` meets its contract.
-use mathlib.Core.Path.{◌≡◌, refl}
-use Prim.Native.Nat.{suc, ◌+◌, ◌-◌, ◌/◌, ◌%◌, ◌≤◌}
-use native.Mathlib.Omega.{arith}
+use mathlib.Core.Path.{◌≡◌}
+use Prim.Native.Nat.{◌-◌, ◌/◌, ◌%◌, ◌≤◌}
 use lib.ListN.{length}
 use Rattle.sha2_rules.specs.Parameters.{sha_256}
 use Rattle.sha2_rules.specs.Hash.{hash_value}
-use Rattle.sha2_rules.proofs.ValueLaws.{one_block}
 use Rattle.sha256.proofs.absorb_blocks.Given as goal
 
 abbrev pub invariant-loop-at : goal.invariant-loop-at

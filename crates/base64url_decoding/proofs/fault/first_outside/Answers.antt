@@ -1,8 +1,7 @@
 -- `first_outside` meets its contract: up to i, every character is of the alphabet.
-use Prim.Native.Nat.{◌≤◌, ◌-◌}
+use Prim.Native.Nat.{◌-◌}
 use native.Mathlib.Omega.{arith}
-use lib.ListN.{length}
-use Rattle.base64url_decoding.proofs.RefusalLaws.{Passed, one_more, stopped, ended}
+use Rattle.base64url_decoding.proofs.RefusalLaws.{one_more, stopped, ended}
 use Rattle.base64url_decoding.proofs.fault.first_outside.Goals as goal
 
 pub returns-then-value_of-ge64 : goal.returns-then-value_of-ge64

@@ -1,12 +1,11 @@
 -- `decode_pairs` meets its contract: up to i, the pairs of groups are strict and their bytes are written.
-use mathlib.Core.Path.{◌≡◌, refl}
+use mathlib.Core.Path.{refl}
 use mathlib.Core.Bool.{true}
-use Prim.Native.Nat.{◌+◌, ◌≤◌, ◌-◌, ◌*◌}
+use Prim.Native.Nat.{◌+◌, ◌-◌, ◌*◌}
 use native.Mathlib.Omega.{arith}
-use lib.ListN.{length, take, drop, length-set, length-drop}
+use lib.ListN.{drop, length-set, length-drop}
 use lib.Seq.{take_all, length-take-le}
 use borrow.Author.Tests.{not-true, not-false}
-use Rattle.base64url_decoding.specs.Writing.{Decodes}
 use Rattle.base64url_decoding.proofs.DecodeLaws.{nothing, one_more, refused}
 use Rattle.base64url_decoding.proofs.groups.decode_pairs.Goals as goal
 

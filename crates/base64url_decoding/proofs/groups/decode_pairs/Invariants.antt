@@ -1,13 +1,9 @@
 -- `decode_pairs` meets its contract: up to i, the pairs of groups are strict and their bytes are written.
-use mathlib.Core.Path.{◌≡◌, refl}
+use mathlib.Core.Path.{◌≡◌}
 use mathlib.Core.Bool.{true}
-use Prim.Native.Nat.{◌+◌, ◌≤◌, ◌-◌, ◌*◌}
-use native.Mathlib.Omega.{arith}
-use lib.ListN.{length, take, drop, length-set, length-drop}
-use lib.Seq.{take_all, length-take-le}
-use borrow.Author.Tests.{not-true, not-false}
+use Prim.Native.Nat.{◌≤◌, ◌-◌, ◌*◌}
+use lib.ListN.{length, take}
 use Rattle.base64url_decoding.specs.Writing.{Decodes}
-use Rattle.base64url_decoding.proofs.DecodeLaws.{nothing, one_more, refused}
 use Rattle.base64url_decoding.proofs.groups.decode_pairs.Given as goal
 
 abbrev pub invariant-loop-i : goal.invariant-loop-i

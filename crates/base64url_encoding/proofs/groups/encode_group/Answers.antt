@@ -1,5 +1,4 @@
 -- `encode_group` meets its contract, character by character.
-use native.Mathlib.Omega.{arith}
 use Rattle.base64url_rules.specs.Base64url.{encode}
 use Rattle.base64url_encoding.proofs.groups.encode_group.Goals as goal
 

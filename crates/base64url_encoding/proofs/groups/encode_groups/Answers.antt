@@ -1,10 +1,9 @@
 -- `encode_groups` meets its contract: up to i, the text of the groups is written.
-use mathlib.Core.Path.{◌≡◌, refl, ◌∙◌}
-use Prim.Native.Nat.{◌+◌, ◌≤◌, ◌-◌, ◌*◌}
+use mathlib.Core.Path.{refl, ◌∙◌}
+use Prim.Native.Nat.{◌+◌, ◌-◌, ◌*◌}
 use native.Mathlib.Omega.{arith}
-use lib.ListN.{length, take, length-set}
+use lib.ListN.{length-set}
 use lib.Seq.{take_all}
-use Rattle.common.specs.Buffer.{laid}
 use Rattle.common.specs.Laid.{four_stores}
 use Rattle.base64url_rules.specs.Base64url.{encode}
 use Rattle.base64url_rules.proofs.Grouping.{encode_grouping, group_more}

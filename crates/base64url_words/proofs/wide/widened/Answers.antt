@@ -4,7 +4,7 @@ use Prim.Native.Nat.{◌-◌}
 use native.Mathlib.Omega.{arith}
 use native.Mathlib.Nat.{not-suc-le-zero}
 use Rattle.base64url_words.proofs.SignLaws.{from_32}
-use Rattle.base64url_words.proofs.WideLaws.{Filled, one_more, filled}
+use Rattle.base64url_words.proofs.WideLaws.{one_more, filled}
 use Rattle.base64url_words.proofs.wide.widened.Goals as goal
 
 pub loop-i-init : goal.loop-i-init

@@ -1,15 +1,11 @@
 -- `names_from`. The loop's invariant: what is right for the elements from p on is right for all of them.
 use mathlib.Core.Path.{sym, ◌∙◌}
-use mathlib.Core.Bool.{false}
-use Prim.Native.Nat.{◌-◌, ◌<◌}
+use Prim.Native.Nat.{◌-◌}
 use native.Mathlib.Omega.{arith}
-use lib.ListN.{length}
 use borrow.Author.Tests.{not-true, not-false}
 use Rattle.common.specs.Ascii.{ascii}
 use Rattle.json_members.specs.StepLaws.{item_at_lem}
-use Rattle.jose_rules.specs.declared.Crit.{Crit}
 use Rattle.jose_rules.specs.Names.{fmt}
-use Rattle.jose_facts.specs.Says.{NamesGo}
 use Rattle.jose_facts.proofs.CriticalNames.{names_next, names_last, names_wrong}
 use Rattle.jose_facts.proofs.critical.names_from.Goals as goal
 

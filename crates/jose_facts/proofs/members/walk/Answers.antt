@@ -1,10 +1,8 @@
 -- `walk`. The loop's invariant: the slots show the members passed.
-use Prim.Native.Nat.{◌-◌, ◌<◌}
+use Prim.Native.Nat.{◌-◌}
 use native.Mathlib.Omega.{arith}
-use lib.ListN.{length}
 use Rattle.json_members.specs.StepLaws.{entry_at_lem}
-use Rattle.json_members.specs.WalkLaws.{Walking, walk_start, walk_next, walk_end}
-use Rattle.jose_facts.specs.Known.{name, slot}
+use Rattle.json_members.specs.WalkLaws.{walk_start, walk_next, walk_end}
 use Rattle.jose_facts.proofs.members.walk.Goals as goal
 
 pub loop-q-init : goal.loop-q-init

@@ -1,9 +1,7 @@
 -- `walk`. The loop's invariant: the slots show the members passed.
 use Prim.Native.Nat.{◌-◌, ◌<◌}
-use native.Mathlib.Omega.{arith}
 use lib.ListN.{length}
-use Rattle.json_members.specs.StepLaws.{entry_at_lem}
-use Rattle.json_members.specs.WalkLaws.{Walking, walk_start, walk_next, walk_end}
+use Rattle.json_members.specs.WalkLaws.{Walking}
 use Rattle.jose_facts.specs.Known.{name, slot}
 use Rattle.jose_facts.proofs.members.walk.Given as goal
 

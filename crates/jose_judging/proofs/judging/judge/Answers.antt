@@ -1,7 +1,5 @@
 -- `judge`: 9 to 11, then 12 to 14.
-use mathlib.Core.Path.{◌≡◌, sym, ◌∙◌}
-use Rattle.common.specs.First.{first}
-use Rattle.jose_rules.specs.Facts.{known_tests}
+use mathlib.Core.Path.{sym, ◌∙◌}
 use Rattle.jose_judging.proofs.KnownRules.{verdict_known, verdict_key, format_fine}
 use Rattle.jose_judging.proofs.judging.judge.Goals as goal
 

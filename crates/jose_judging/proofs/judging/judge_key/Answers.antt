@@ -1,13 +1,11 @@
 -- `judge_key`, rule by rule.
-use mathlib.Core.Path.{◌≡◌, sym, ap, ◌∙◌}
+use mathlib.Core.Path.{sym, ap, ◌∙◌}
 use mathlib.Core.Bool.{true, not}
-use mathlib.Core.Option.{some}
-use Prim.Native.Nat.{◌≤◌}
-use lib.IntN.{pos, nat_abs}
+use lib.IntN.{pos}
 use Rattle.common.specs.Options.{or_else}
 use Rattle.keytable_rules.specs.Key.{key, allows_hs256, allows_format}
 use Rattle.keytable_rules.specs.Table.{keys}
-use Rattle.jose_rules.specs.Facts.{index_of, chosen_key, format_by, lacking}
+use Rattle.jose_rules.specs.Facts.{index_of, format_by}
 use Rattle.jose_judging.proofs.FormatLaws.{small_none, small_is, number_is}
 use Rattle.jose_judging.proofs.KeyRules.{key_12, key_13, key_14, key_taken}
 use Rattle.jose_judging.proofs.judging.judge_key.Goals as goal

@@ -1,6 +1,5 @@
 -- `hex_val` meets its contract.
 use mathlib.Core.Path.{sym, ◌∙◌}
-use native.Mathlib.Omega.{arith}
 use Rattle.json_characters.proofs.ClassLaws.{digit_low, digit_val, letter_val}
 use Rattle.json_characters.proofs.classes.hex_val.Goals as goal
 

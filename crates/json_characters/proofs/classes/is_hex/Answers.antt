@@ -1,6 +1,5 @@
 -- `is_hex` meets its contract.
 use mathlib.Core.Path.{sym, ◌∙◌}
-use native.Mathlib.Omega.{arith}
 use Rattle.json_characters.proofs.ClassLaws.{hex_1, hex_2}
 use Rattle.json_characters.proofs.classes.is_hex.Goals as goal
 

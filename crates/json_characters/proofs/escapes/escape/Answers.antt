@@ -1,5 +1,4 @@
 -- `escape` meets its contract.
-use native.Mathlib.Omega.{arith}
 use Rattle.json_characters.proofs.EscapeLaws.{escape_u, escape_short, escape_out}
 use Rattle.json_characters.proofs.escapes.escape.Goals as goal
 

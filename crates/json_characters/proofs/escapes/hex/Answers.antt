@@ -1,13 +1,8 @@
 -- `hex` meets its contract. The loop's invariant: what is right for the digits left is right for all four.
 use mathlib.Core.Path.{sym, ◌∙◌}
 use native.Mathlib.Omega.{arith}
-use Prim.Native.Nat.{◌+◌, ◌≤◌, ◌<◌}
-use lib.ListN.{length}
-use Rattle.json_characters.specs.declared.Scan.{Scan}
-use Rattle.json_characters.specs.Steps.{ScanAt}
-use Rattle.json_grammar_rules.specs.Reader.{read_hex}
-use Rattle.json_characters.proofs.DigitLaws.{room, room_small, room_step, digits_more, digits_not, digits_done}
-use Rattle.json_characters.proofs.EscapeLaws.{read_hexes, hex_digits, hex_short}
+use Rattle.json_characters.proofs.DigitLaws.{room_small, room_step, digits_more, digits_not, digits_done}
+use Rattle.json_characters.proofs.EscapeLaws.{hex_digits, hex_short}
 use Rattle.json_characters.proofs.escapes.hex.Goals as goal
 
 pub returns-then-s-from-lt4 : goal.returns-then-s-from-lt4

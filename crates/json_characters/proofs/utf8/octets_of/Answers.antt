@@ -1,6 +1,5 @@
 -- `octets_of` meets its contract.
 use mathlib.Core.Path.{ap}
-use native.Mathlib.Omega.{arith}
 use Rattle.json_characters.specs.Octets.{holding}
 use Rattle.json_characters.proofs.OctetLaws.{one_octet, two_octets, three_octets, four_octets}
 use Rattle.json_characters.proofs.utf8.octets_of.Goals as goal

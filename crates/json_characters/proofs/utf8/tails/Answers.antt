@@ -2,12 +2,9 @@
 use mathlib.Core.Path.{sym, ◌∙◌}
 use native.Mathlib.Omega.{arith}
 use lib.Dec.{lit≤}
-use Prim.Native.Nat.{◌≤◌, ◌<◌}
-use lib.ListN.{length}
-use Rattle.json_characters.specs.declared.Scan.{Scan}
-use Rattle.json_characters.specs.Steps.{ScanAt, read_tails}
+use Prim.Native.Nat.{◌≤◌}
 use Rattle.json_grammar_rules.proofs.ByteLaws.{within_true}
-use Rattle.json_characters.proofs.DigitLaws.{room, room_small, room_step, digits_more, digits_not, digits_out, digits_done}
+use Rattle.json_characters.proofs.DigitLaws.{room_small, room_step, digits_more, digits_not, digits_out, digits_done}
 use Rattle.json_characters.proofs.FormLaws.{room_least, tail_bits}
 use Rattle.json_characters.proofs.utf8.tails.Goals as goal
 

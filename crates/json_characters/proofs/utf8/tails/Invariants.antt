@@ -1,14 +1,9 @@
 -- `tails` meets its contract. The loop's invariant: what is right for the octets left is right for all; the bits so far leave room for those left.
-use mathlib.Core.Path.{sym, ◌∙◌}
-use native.Mathlib.Omega.{arith}
-use lib.Dec.{lit≤}
 use Prim.Native.Nat.{◌≤◌, ◌<◌}
 use lib.ListN.{length}
 use Rattle.json_characters.specs.declared.Scan.{Scan}
 use Rattle.json_characters.specs.Steps.{ScanAt, read_tails}
-use Rattle.json_grammar_rules.proofs.ByteLaws.{within_true}
-use Rattle.json_characters.proofs.DigitLaws.{room, room_small, room_step, digits_more, digits_not, digits_out, digits_done}
-use Rattle.json_characters.proofs.FormLaws.{room_least, tail_bits}
+use Rattle.json_characters.proofs.DigitLaws.{room}
 use Rattle.json_characters.proofs.utf8.tails.Given as goal
 
 abbrev pub invariant-loop-left : goal.invariant-loop-left

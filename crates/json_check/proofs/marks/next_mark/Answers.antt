@@ -1,10 +1,7 @@
 -- `next_mark` meets its contract.
-use Prim.Native.Nat.{◌-◌, ◌≤◌}
+use Prim.Native.Nat.{◌-◌}
 use native.Mathlib.Omega.{arith}
-use lib.ListN.{length}
 use Rattle.json_string.specs.StringLaws.{stringed}
-use Rattle.json_check.specs.declared.marks.Mark.{Mark}
-use Rattle.json_check.specs.Marks.{MarkAt}
 use Rattle.json_check.proofs.MarkLaws as law
 use Rattle.json_check.proofs.marks.next_mark.Goals as goal
 

@@ -1,11 +1,8 @@
 -- `next_mark` meets its contract.
 use Prim.Native.Nat.{◌-◌, ◌≤◌}
-use native.Mathlib.Omega.{arith}
 use lib.ListN.{length}
-use Rattle.json_string.specs.StringLaws.{stringed}
 use Rattle.json_check.specs.declared.marks.Mark.{Mark}
 use Rattle.json_check.specs.Marks.{MarkAt}
-use Rattle.json_check.proofs.MarkLaws as law
 use Rattle.json_check.proofs.marks.next_mark.Given as goal
 
 abbrev pub invariant-loop-at : goal.invariant-loop-at

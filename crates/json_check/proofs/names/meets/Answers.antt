@@ -1,12 +1,9 @@
 -- `meets` meets its contract.
 use mathlib.Core.Path.{sym, ◌∙◌}
-use Prim.Native.Nat.{◌-◌, ◌≤◌}
+use Prim.Native.Nat.{◌-◌}
 use native.Mathlib.Omega.{arith}
-use lib.ListN.{length}
 use Rattle.json_check.proofs.MarkLaws.{name_told, opens_told, closes_told, nothing_told}
-use Rattle.json_check.proofs.StackLaws.{Without}
 use Rattle.json_check.proofs.StackLaws as stack
-use Rattle.json_check.proofs.NameLaws.{Meeting}
 use Rattle.json_check.proofs.NameLaws as law
 use Rattle.json_check.proofs.names.meets.Goals as goal
 

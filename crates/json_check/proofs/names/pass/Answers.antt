@@ -1,12 +1,10 @@
 -- `pass` meets its contract.
-use mathlib.Core.Path.{◌≡◌, refl, sym, ◌∙◌}
-use Prim.Native.Nat.{◌-◌, ◌≤◌}
+use mathlib.Core.Path.{refl, sym, ◌∙◌}
+use Prim.Native.Nat.{◌-◌}
 use native.Mathlib.Omega.{arith}
-use lib.ListN.{length, length-set}
+use lib.ListN.{length-set}
 use Rattle.json_check.proofs.MarkLaws.{name_told, opens_told, closes_told, nothing_told}
-use Rattle.json_check.proofs.StackLaws.{Without}
 use Rattle.json_check.proofs.StackLaws as stack
-use Rattle.json_check.proofs.NameLaws.{Filling}
 use Rattle.json_check.proofs.NameLaws as law
 use Rattle.json_check.proofs.names.pass.Goals as goal
 

@@ -1,13 +1,9 @@
 -- `pass` meets its contract.
-use mathlib.Core.Path.{◌≡◌, refl, sym, ◌∙◌}
+use mathlib.Core.Path.{◌≡◌}
 use Prim.Native.Nat.{◌-◌, ◌≤◌}
-use native.Mathlib.Omega.{arith}
-use lib.ListN.{length, length-set}
-use Rattle.json_check.proofs.MarkLaws.{name_told, opens_told, closes_told, nothing_told}
+use lib.ListN.{length}
 use Rattle.json_check.proofs.StackLaws.{Without}
-use Rattle.json_check.proofs.StackLaws as stack
 use Rattle.json_check.proofs.NameLaws.{Filling}
-use Rattle.json_check.proofs.NameLaws as law
 use Rattle.json_check.proofs.names.pass.Given as goal
 
 abbrev pub invariant-loop-i : goal.invariant-loop-i

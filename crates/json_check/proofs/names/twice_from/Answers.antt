@@ -1,9 +1,6 @@
 -- `twice_from` meets its contract.
 use mathlib.Core.Path.{ap, ◌∙◌}
-use native.Mathlib.Omega.{arith}
 use Rattle.json_check.specs.declared.names.Search.TheVariants.{Past}
-use Rattle.json_check.specs.Twice.{Searched}
-use Rattle.json_check.proofs.NameLaws.{left}
 use Rattle.json_check.proofs.NameLaws as law
 use Rattle.json_check.proofs.names.twice_from.Goals as goal
 

@@ -1,11 +1,8 @@
 -- `nth_member` meets its contract.
 use Prim.Native.Nat.{◌<◌}
-use native.Mathlib.Omega.{arith}
 use lib.ListN.{length}
-use Rattle.json_members.specs.StepLaws.{entry_at_lem}
 use Rattle.json_rules.specs.declared.Member.{Member}
 use Rattle.json_header.specs.Picks.{Picks}
-use Rattle.json_header.proofs.HeaderLaws as law
 use Rattle.json_header.proofs.header.nth_member.Given as goal
 
 abbrev pub invariant-loop-left : goal.invariant-loop-left

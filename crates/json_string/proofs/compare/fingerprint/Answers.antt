@@ -1,9 +1,7 @@
 -- `fingerprint` meets its contract. The loop's invariant: mixing the rest of the string into what is mixed so far gives the fingerprint.
-use mathlib.Core.Path.{◌≡◌, refl, sym, ◌∙◌}
+use mathlib.Core.Path.{sym, ◌∙◌}
 use native.Mathlib.Omega.{arith}
 use Prim.Native.Nat.{◌-◌}
-use lib.ListN.{length}
-use Rattle.json_string.specs.Strings.{mixed_at, fingerprint_at}
 use Rattle.json_characters.specs.CharacterLaws.{scanned, char_after}
 use Rattle.json_string.specs.TextLaws.{text_out, text_quote, text_wrong_lem, text_step, text_plain}
 use Rattle.json_string.proofs.TextPaths.{mixed_none, mixed_all, mixed_on}

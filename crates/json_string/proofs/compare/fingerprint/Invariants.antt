@@ -1,12 +1,8 @@
 -- `fingerprint` meets its contract. The loop's invariant: mixing the rest of the string into what is mixed so far gives the fingerprint.
-use mathlib.Core.Path.{◌≡◌, refl, sym, ◌∙◌}
-use native.Mathlib.Omega.{arith}
+use mathlib.Core.Path.{◌≡◌}
 use Prim.Native.Nat.{◌-◌}
 use lib.ListN.{length}
 use Rattle.json_string.specs.Strings.{mixed_at, fingerprint_at}
-use Rattle.json_characters.specs.CharacterLaws.{scanned, char_after}
-use Rattle.json_string.specs.TextLaws.{text_out, text_quote, text_wrong_lem, text_step, text_plain}
-use Rattle.json_string.proofs.TextPaths.{mixed_none, mixed_all, mixed_on}
 use Rattle.json_string.proofs.compare.fingerprint.Given as goal
 
 abbrev pub invariant-loop-at : goal.invariant-loop-at

@@ -8,7 +8,7 @@ use Rattle.json_characters.specs.CharacterLaws.{scanned, char_after, char_most, 
 use Rattle.json_string.specs.TextLaws.{text_out, text_wrong_lem, text_step, text_plain}
 use Rattle.json_characters.specs.Octets.{octets_in_lem}
 use Rattle.json_string.proofs.OctetLaws.{prefix_fits}
-use Rattle.json_string.proofs.WriteLaws.{Ahead, writes_none, writes_all, writes_long, writes_more, writes_one}
+use Rattle.json_string.proofs.WriteLaws.{writes_none, writes_all, writes_long, writes_more, writes_one}
 use Rattle.json_string.proofs.resolving.write.Goals as goal
 
 pub loop-i-init : goal.loop-i-init

@@ -1,12 +1,8 @@
 -- `string_end` meets its contract. The loop's invariant: the rest of the string ends where the string does.
-use mathlib.Core.Path.{◌≡◌, refl, sym, ◌∙◌}
-use native.Mathlib.Omega.{arith}
+use mathlib.Core.Path.{◌≡◌}
 use Prim.Native.Nat.{◌-◌}
 use lib.ListN.{length}
 use Rattle.json_string.specs.Strings.{string_end}
-use Rattle.json_characters.specs.CharacterLaws.{scanned, char_after}
-use Rattle.json_string.specs.TextLaws.{text_out, text_wrong_lem, text_step, text_plain}
-use Rattle.json_string.proofs.TextPaths.{end_none, end_quote, end_on}
 use Rattle.json_string.proofs.strings.string_end.Given as goal
 
 abbrev pub invariant-loop-at : goal.invariant-loop-at

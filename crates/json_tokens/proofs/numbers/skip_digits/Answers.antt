@@ -1,10 +1,7 @@
 -- `skip_digits` meets its contract.
-use mathlib.Core.Path.{◌≡◌, refl, sym, ◌∙◌}
+use mathlib.Core.Path.{sym, ◌∙◌}
 use Prim.Native.Nat.{◌-◌}
-use native.Mathlib.Omega.{arith}
-use lib.ListN.{length}
 use Rattle.json_grammar_rules.specs.Bytes.{is_digit}
-use Rattle.json_tokens.specs.Tokens.{skip_to}
 use Rattle.json_tokens.proofs.SkipLaws.{skip_more, skip_stop, skip_end}
 use Rattle.json_tokens.proofs.numbers.skip_digits.Goals as goal
 

@@ -1,11 +1,9 @@
 -- `skip_digits` meets its contract.
-use mathlib.Core.Path.{◌≡◌, refl, sym, ◌∙◌}
+use mathlib.Core.Path.{◌≡◌}
 use Prim.Native.Nat.{◌-◌}
-use native.Mathlib.Omega.{arith}
 use lib.ListN.{length}
 use Rattle.json_grammar_rules.specs.Bytes.{is_digit}
 use Rattle.json_tokens.specs.Tokens.{skip_to}
-use Rattle.json_tokens.proofs.SkipLaws.{skip_more, skip_stop, skip_end}
 use Rattle.json_tokens.proofs.numbers.skip_digits.Given as goal
 
 abbrev pub invariant-loop-at : goal.invariant-loop-at

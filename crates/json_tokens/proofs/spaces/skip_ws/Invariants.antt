@@ -1,11 +1,8 @@
 -- `skip_ws` meets its contract.
-use mathlib.Core.Path.{◌≡◌, refl, sym, ◌∙◌}
+use mathlib.Core.Path.{◌≡◌}
 use Prim.Native.Nat.{◌-◌}
-use native.Mathlib.Omega.{arith}
 use lib.ListN.{length}
-use Rattle.json_grammar_rules.specs.Bytes.{is_ws}
 use Rattle.json_tokens.specs.Tokens.{skip_ws}
-use Rattle.json_tokens.proofs.SkipLaws.{skip_more, skip_stop, skip_end}
 use Rattle.json_tokens.proofs.spaces.skip_ws.Given as goal
 
 abbrev pub invariant-loop-at : goal.invariant-loop-at

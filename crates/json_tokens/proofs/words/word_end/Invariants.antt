@@ -1,10 +1,8 @@
 -- `word_end` meets its contract. The loop's invariant: the whole word ends where its rest does.
-use mathlib.Core.Path.{◌≡◌, refl, sym, ◌∙◌}
+use mathlib.Core.Path.{◌≡◌}
 use Prim.Native.Nat.{◌-◌}
-use native.Mathlib.Omega.{arith}
 use lib.ListN.{length, drop}
 use Rattle.json_tokens.specs.Tokens.{word_end}
-use Rattle.json_tokens.proofs.SkipLaws as law
 use Rattle.json_tokens.proofs.words.word_end.Given as goal
 
 abbrev pub invariant-loop-i : goal.invariant-loop-i

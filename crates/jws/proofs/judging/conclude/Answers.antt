@@ -1,8 +1,4 @@
 -- `conclude` meets its contract: the MAC under the chosen key's secret, compared.
-use mathlib.Core.Path.{◌≡◌}
-use mathlib.Core.Bool.{cond}
-use Rattle.jws_rules.specs.declared.Verified.{Verified}
-use Rattle.jws.specs.Judging.{refusal_of, acceptance_of, concluded}
 use Rattle.jws.proofs.JudgeLaws as law
 use Rattle.jws.proofs.judging.conclude.Goals as goal
 

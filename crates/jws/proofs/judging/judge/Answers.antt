@@ -1,8 +1,6 @@
 -- `judge` meets its contract: rules 1 to 3 refuse, or the segments are judged.
-use mathlib.Core.Path.{◌≡◌, sym, ◌∙◌}
-use mathlib.Core.Bool.{false}
+use mathlib.Core.Path.{sym, ◌∙◌}
 use native.Mathlib.Omega.{arith}
-use Rattle.keytable_rules.specs.Table.{bad_table}
 use Rattle.jws_segments.specs.SplitLaws.{split_at, split_not}
 use Rattle.jws.proofs.JudgeLaws as law
 use Rattle.jws.proofs.judging.judge.Goals as goal

@@ -1,7 +1,7 @@
 -- `judge_segments` meets its contract: rules 4 to 6 refuse, or the header is judged.
 use mathlib.Core.Path.{◌≡◌}
 use Rattle.common.specs.First.{first}
-use Rattle.jws_rules.specs.Calls.{VerifyCall, verify_call}
+use Rattle.jws_rules.specs.Calls.{verify_call}
 use Rattle.jws.specs.Judging.{tests_of}
 use Rattle.jws.proofs.JudgeLaws as law
 use Rattle.jws_segments.specs.OpenLaws.{opens}

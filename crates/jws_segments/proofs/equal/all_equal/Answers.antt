@@ -2,7 +2,7 @@
 use mathlib.Core.Path.{◌≡◌, ap}
 use mathlib.Core.Logic.{◌↔◌}
 use mathlib.Core.List.{List}
-use Prim.Native.Nat.{ℕ, ◌≤◌, ◌<◌, ◌-◌}
+use Prim.Native.Nat.{ℕ, ◌-◌}
 use native.Mathlib.Omega.{arith}
 use lib.Bits.{bit_or, bit_xor, or_add_and, and_le_l, and_le_r, xor_add_and, xor_self}
 use lib.ListN.{get_or}
@@ -12,7 +12,6 @@ use Rattle.common.proofs.Decided.{decided}
 use Rattle.common.proofs.FirstLaws.{decides_eq, decides_iff}
 use Rattle.common.proofs.SameLaws.{decides_same}
 use Rattle.jws_segments.proofs.equal.all_equal.Goals as goal
-use Rattle.jws_segments.proofs.equal.all_equal.Invariants.{Alike}
 
 -- a byte more: d stays 0 exactly where the two bytes agree
 more : (d x y : ℕ) → (bit_or d (bit_xor x y) ≡ 0) ↔ ((d ≡ 0) × (x ≡ y))

@@ -1,16 +1,9 @@
 -- `all_equal` meets its contract: d is 0 as long as the bytes before i agree, and only so long.
-use mathlib.Core.Path.{◌≡◌, ap}
+use mathlib.Core.Path.{◌≡◌}
 use mathlib.Core.Logic.{◌↔◌}
 use mathlib.Core.List.{List}
 use Prim.Native.Nat.{ℕ, ◌≤◌, ◌<◌, ◌-◌}
-use native.Mathlib.Omega.{arith}
-use lib.Bits.{bit_or, bit_xor, or_add_and, and_le_l, and_le_r, xor_add_and, xor_self}
 use lib.ListN.{get_or}
-use lib.Seq.{ext_get_or}
-use borrow.Author.Count.{below_more}
-use Rattle.common.proofs.Decided.{decided}
-use Rattle.common.proofs.FirstLaws.{decides_eq, decides_iff}
-use Rattle.common.proofs.SameLaws.{decides_same}
 use Rattle.jws_segments.proofs.equal.all_equal.Given as goal
 
 -- the bytes before i agree

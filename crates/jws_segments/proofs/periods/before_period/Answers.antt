@@ -3,8 +3,8 @@ use mathlib.Core.Path.{◌≡◌, sym, ◌∙◌}
 use Prim.Native.Nat.{◌+◌, ◌-◌, ◌≤◌}
 use native.Mathlib.Omega.{arith}
 use borrow.Author.Tests.{ltb-false}
-use lib.ListN.{length, take, drop}
-use Rattle.jws_rules.specs.Segments.{front, periods}
+use lib.ListN.{take, drop}
+use Rattle.jws_rules.specs.Segments.{periods}
 use Rattle.jws_segments.specs.SplitLaws.{block_past}
 use Rattle.jws_segments.proofs.periods.before_period.Goals as goal
 

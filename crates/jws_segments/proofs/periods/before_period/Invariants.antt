@@ -1,11 +1,8 @@
 -- `before_period` meets its contract: before i no byte is a period.
-use mathlib.Core.Path.{◌≡◌, sym, ◌∙◌}
+use mathlib.Core.Path.{◌≡◌}
 use Prim.Native.Nat.{◌+◌, ◌-◌, ◌≤◌}
-use native.Mathlib.Omega.{arith}
-use borrow.Author.Tests.{ltb-false}
-use lib.ListN.{length, take, drop}
-use Rattle.jws_rules.specs.Segments.{front, periods}
-use Rattle.jws_segments.specs.SplitLaws.{block_past}
+use lib.ListN.{length, drop}
+use Rattle.jws_rules.specs.Segments.{front}
 use Rattle.jws_segments.proofs.periods.before_period.Given as goal
 
 abbrev pub invariant-loop-i : goal.invariant-loop-i

@@ -1,13 +1,8 @@
 -- `period_from` meets its contract: up to i no byte is a period.
 use mathlib.Core.Path.{◌≡◌}
-use mathlib.Core.List.{List}
-use Prim.Native.Nat.{ℕ, ◌+◌, ◌-◌, ◌≤◌, ◌<◌}
-use native.Mathlib.Numerals.{add-one}
-use native.Mathlib.Omega.{arith}
-use lib.ListN.{length, drop, get_or, drop_of_length-le}
-use lib.Seq.{drop-cons}
-use borrow.Author.Tests.{eq-eqb, ne_eqb}
-use Rattle.jws_rules.specs.Segments.{period, front}
+use Prim.Native.Nat.{◌+◌, ◌-◌}
+use lib.ListN.{length, drop}
+use Rattle.jws_rules.specs.Segments.{front}
 use Rattle.jws_segments.proofs.periods.period_from.Given as goal
 
 abbrev pub invariant-loop-i : goal.invariant-loop-i

@@ -1,11 +1,9 @@
 -- `finish` meets its contract: 1, then 6, then the token.
-use mathlib.Core.Path.{◌≡◌, refl, sym, ◌∙◌}
-use Prim.Native.Nat.{◌+◌, ◌*◌, ◌≤◌}
+use mathlib.Core.Path.{refl, sym, ◌∙◌}
 use native.Mathlib.Omega.{arith}
 use lib.ListN.{length}
 use Rattle.base64url_rules.proofs.LengthLaws.{encoded_length_lem}
-use Rattle.json_rules.specs.Rules.{longest}
-use Rattle.jws_rules.specs.Token.{token_most, token_of, finished_length}
+use Rattle.jws_rules.specs.Token.{token_of}
 use Rattle.jws_rules.proofs.TokenLaws.{length_token}
 use Rattle.jws_signing.proofs.SignLaws.{finished_size, payload_long, too_long, too_short, fitting}
 use Rattle.jws_signing.proofs.WrittenLaws.{refuse, hand}

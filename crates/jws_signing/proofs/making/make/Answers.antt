@@ -5,7 +5,7 @@ use Prim.Native.Nat.{ℕ}
 use lib.ListN.{length}
 use Rattle.jws_rules.specs.Calls.{sign_call}
 use Rattle.jws_signing.specs.Written.{finished}
-use Rattle.jws_signing.proofs.SignLaws.{Passed, head_refuses, head_passes}
+use Rattle.jws_signing.proofs.SignLaws.{head_refuses, head_passes}
 use Rattle.jws_signing.proofs.WrittenLaws.{refuse, same_outcome}
 use Rattle.jws_signing.proofs.making.make.Goals as goal
 

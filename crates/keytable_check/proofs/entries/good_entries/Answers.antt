@@ -1,9 +1,8 @@
 -- `good_entries`: the entries before i are good.
-use Prim.Native.Nat.{◌-◌, ◌≤◌}
+use Prim.Native.Nat.{◌-◌}
 use native.Mathlib.Omega.{arith}
 use borrow.Author.Count.{below_more}
 use Rattle.common.specs.First.{holds, fails}
-use Rattle.keytable_rules.specs.Table.{GoodEntries}
 use Rattle.common.proofs.Decided.{when_true, when_false}
 use Rattle.keytable_check.proofs.entries.good_entries.Goals as goal
 

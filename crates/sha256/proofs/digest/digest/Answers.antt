@@ -1,8 +1,8 @@
 -- `sha256::digest::digest` meets its contract.
 use mathlib.Core.Path.{◌≡◌, refl, ap, sym, ◌∙◌}
-use Prim.Native.Nat.{◌-◌, ◌*◌, ◌≤◌}
+use Prim.Native.Nat.{◌-◌, ◌*◌}
 use native.Mathlib.Omega.{arith}
-use lib.ListN.{length, take}
+use lib.ListN.{length}
 use lib.Seq.{take_all, length-paste}
 use Rattle.common.specs.BigEndianLaws.{length_big_endian}
 use Rattle.sha2_rules.specs.Hash.{word_bytes}

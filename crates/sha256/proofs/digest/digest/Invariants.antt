@@ -1,12 +1,8 @@
 -- `sha256::digest::digest` meets its contract.
-use mathlib.Core.Path.{◌≡◌, refl, ap, sym, ◌∙◌}
+use mathlib.Core.Path.{◌≡◌}
 use Prim.Native.Nat.{◌-◌, ◌*◌, ◌≤◌}
-use native.Mathlib.Omega.{arith}
 use lib.ListN.{length, take}
-use lib.Seq.{take_all, length-paste}
-use Rattle.common.specs.BigEndianLaws.{length_big_endian}
 use Rattle.sha2_rules.specs.Hash.{word_bytes}
-use Rattle.sha2_rules.proofs.ValueLaws.{one_word_bytes}
 use Rattle.sha256.proofs.digest.digest.Given as goal
 
 abbrev pub invariant-loop-i : goal.invariant-loop-i

@@ -1,11 +1,9 @@
 -- `sha256::runs::absorb_runs` meets its contract.
-use mathlib.Core.Path.{◌≡◌, refl}
-use Prim.Native.Nat.{◌+◌, ◌-◌, ◌/◌, ◌%◌, ◌≤◌}
-use native.Mathlib.Omega.{arith}
+use mathlib.Core.Path.{◌≡◌}
+use Prim.Native.Nat.{◌-◌, ◌/◌, ◌%◌, ◌≤◌}
 use lib.ListN.{length}
 use Rattle.sha2_rules.specs.Parameters.{sha_256}
 use Rattle.sha2_rules.specs.Hash.{hash_value}
-use Rattle.sha2_rules.proofs.BlockLaws.{more_blocks}
 use Rattle.sha256.proofs.runs.absorb_runs.Given as goal
 
 abbrev pub invariant-loop-at : goal.invariant-loop-at

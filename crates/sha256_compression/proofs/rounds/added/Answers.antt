@@ -1,5 +1,5 @@
 -- `sha256_compression::rounds::added` meets its contract.
-use Rattle.std.proofs.Common.{◌≡◌, ◌-◌, ◌≤◌, length, take, sym, refl, ◌∙◌, arith, length-set, take_all, rules}
+use Rattle.std.proofs.Common.{◌≡◌, ◌-◌, sym, refl, ◌∙◌, arith, length-set, take_all}
 use Rattle.sha2_rules.specs.Parameters.{sha_256}
 use Rattle.sha2_rules.specs.Compression.{sums}
 use Rattle.sha2_rules.proofs.RoundLaws.{one_sum}

@@ -1,8 +1,7 @@
 -- `sha256_compression::rounds::added` meets its contract.
-use Rattle.std.proofs.Common.{◌≡◌, ◌-◌, ◌≤◌, length, take, sym, refl, ◌∙◌, arith, length-set, take_all, rules}
+use Rattle.std.proofs.Common.{◌≡◌, ◌-◌, ◌≤◌, length, take}
 use Rattle.sha2_rules.specs.Parameters.{sha_256}
 use Rattle.sha2_rules.specs.Compression.{sums}
-use Rattle.sha2_rules.proofs.RoundLaws.{one_sum}
 use Rattle.sha256_compression.proofs.rounds.added.Given as goal
 
 abbrev pub invariant-loop-i : goal.invariant-loop-i

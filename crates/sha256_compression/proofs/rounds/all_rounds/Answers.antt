@@ -1,7 +1,7 @@
 -- `sha256_compression::rounds::all_rounds` meets its contract.
-use Rattle.std.proofs.Common.{◌≡◌, ℕ, ◌+◌, ◌-◌, ◌%◌, ◌≤◌, List, length, take, set, refl, arith, length-set, rules}
+use Rattle.std.proofs.Common.{◌≡◌, ◌+◌, ◌-◌, set, refl, arith, length-set}
 use Rattle.sha2_rules.specs.Parameters.{sha_256}
-use Rattle.sha2_rules.specs.Compression.{schedule, rounds}
+use Rattle.sha2_rules.specs.Compression.{rounds}
 use Rattle.sha2_rules.proofs.ScheduleLaws.{one_later}
 use Rattle.sha2_rules.proofs.RoundLaws.{two_more}
 use Rattle.sha256_compression.proofs.rounds.all_rounds.Goals as goal

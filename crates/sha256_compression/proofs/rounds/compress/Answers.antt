@@ -1,5 +1,4 @@
 -- `sha256_compression::rounds::compress` meets its contract.
-use Rattle.std.proofs.Common.{rules}
 use Rattle.sha2_rules.specs.Compression.{compressed}
 use Rattle.sha256_compression.proofs.rounds.compress.Goals as goal
 

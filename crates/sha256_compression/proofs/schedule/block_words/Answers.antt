@@ -1,5 +1,5 @@
 -- `sha256_compression::schedule::block_words` meets its contract.
-use Rattle.std.proofs.Common.{◌≡◌, ◌+◌, ◌-◌, ◌≤◌, length, take, sym, refl, ◌∙◌, arith, length-set}
+use Rattle.std.proofs.Common.{◌≡◌, ◌+◌, ◌-◌, sym, refl, ◌∙◌, arith, length-set}
 use Rattle.sha2_rules.specs.Parameters.{sha_256}
 use Rattle.sha2_rules.specs.Compression.{schedule}
 use Rattle.sha2_rules.proofs.ScheduleLaws.{block_word, one_word}

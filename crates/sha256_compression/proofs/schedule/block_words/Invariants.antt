@@ -1,8 +1,7 @@
 -- `sha256_compression::schedule::block_words` meets its contract.
-use Rattle.std.proofs.Common.{◌≡◌, ◌+◌, ◌-◌, ◌≤◌, length, take, sym, refl, ◌∙◌, arith, length-set}
+use Rattle.std.proofs.Common.{◌≡◌, ◌-◌, ◌≤◌, length, take}
 use Rattle.sha2_rules.specs.Parameters.{sha_256}
 use Rattle.sha2_rules.specs.Compression.{schedule}
-use Rattle.sha2_rules.proofs.ScheduleLaws.{block_word, one_word}
 use Rattle.sha256_compression.proofs.schedule.block_words.Given as goal
 
 abbrev pub invariant-loop-t : goal.invariant-loop-t

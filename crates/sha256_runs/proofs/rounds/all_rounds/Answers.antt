@@ -1,8 +1,7 @@
 -- `sha256_runs::rounds::all_rounds` meets its contract.
-use Rattle.std.proofs.Common.{◌≡◌, ℕ, ◌-◌, ◌%◌, ◌≤◌, List, refl, arith}
+use Rattle.std.proofs.Common.{◌≡◌, ◌-◌, refl, arith}
 use Rattle.sha2_rules.specs.Parameters.{sha_256}
-use Rattle.sha2_rules.specs.Compression.{schedule, rounds}
-use Rattle.sha2_rules.specs.Woven.{Woven, block_of}
+use Rattle.sha2_rules.specs.Compression.{rounds}
 use Rattle.sha2_rules.proofs.WovenLaws.{two_woven}
 use Rattle.sha256_runs.proofs.rounds.all_rounds.Goals as goal
 

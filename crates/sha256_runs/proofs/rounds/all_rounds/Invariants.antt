@@ -1,9 +1,8 @@
 -- `sha256_runs::rounds::all_rounds` meets its contract.
-use Rattle.std.proofs.Common.{◌≡◌, ℕ, ◌-◌, ◌%◌, ◌≤◌, List, refl, arith}
+use Rattle.std.proofs.Common.{◌≡◌, ℕ, ◌-◌, ◌%◌, ◌≤◌, List}
 use Rattle.sha2_rules.specs.Parameters.{sha_256}
 use Rattle.sha2_rules.specs.Compression.{schedule, rounds}
 use Rattle.sha2_rules.specs.Woven.{Woven, block_of}
-use Rattle.sha2_rules.proofs.WovenLaws.{two_woven}
 use Rattle.sha256_runs.proofs.rounds.all_rounds.Given as goal
 
 abbrev pub invariant-loop-t : goal.invariant-loop-t

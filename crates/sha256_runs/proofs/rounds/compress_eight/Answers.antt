@@ -1,5 +1,5 @@
 -- `sha256_runs::rounds::compress_eight` meets its contract.
-use Rattle.std.proofs.Common.{◌≡◌, ◌-◌, ◌≤◌, refl, add-one, arith, rules}
+use Rattle.std.proofs.Common.{◌≡◌, ◌-◌, refl, add-one, arith}
 use Rattle.sha2_rules.specs.Parameters.{sha_256}
 use Rattle.sha2_rules.specs.Hash.{hash_value}
 use Rattle.sha2_rules.proofs.ValueLaws.{next_block}

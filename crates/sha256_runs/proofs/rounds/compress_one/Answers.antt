@@ -1,5 +1,4 @@
 -- `sha256_runs::rounds::compress_one` meets its contract.
-use Rattle.std.proofs.Common.{rules}
 use Rattle.sha2_rules.specs.Compression.{compressed}
 use Rattle.sha256_runs.proofs.rounds.compress_one.Goals as goal
 

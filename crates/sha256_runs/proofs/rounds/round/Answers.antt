@@ -1,5 +1,4 @@
 -- `sha256_runs::rounds::round` meets its contract.
-use Rattle.std.proofs.Common.{rules}
 use Rattle.sha2_rules.specs.Compression.{round}
 use Rattle.sha256_runs.proofs.rounds.round.Goals as goal
 

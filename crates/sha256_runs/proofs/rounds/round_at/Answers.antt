@@ -1,5 +1,4 @@
 -- `sha256_runs::rounds::round_at` meets its contract.
-use Rattle.std.proofs.Common.{rules}
 use Rattle.sha256_runs.proofs.rounds.round_at.Goals as goal
 
 pub returns : goal.returns

@@ -1,5 +1,4 @@
 -- `sha256_runs::rounds::t1` meets its contract.
-use Rattle.std.proofs.Common.{rules}
 use Rattle.sha2_rules.specs.Parameters.{sha_256}
 use Rattle.sha2_rules.proofs.RoundLaws.{summed}
 use Rattle.sha256_runs.proofs.rounds.t1.Goals as goal

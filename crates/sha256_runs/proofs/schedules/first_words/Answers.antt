@@ -1,7 +1,5 @@
 -- `sha256_runs::schedules::first_words` meets its contract.
-use Rattle.std.proofs.Common.{◌≡◌, ◌-◌, ◌*◌, ◌≤◌, length, not-suc-le-zero, arith}
-use Rattle.sha2_rules.specs.Parameters.{sha_256}
-use Rattle.sha2_rules.specs.Woven.{Woven}
+use Rattle.std.proofs.Common.{◌-◌, not-suc-le-zero, arith}
 use Rattle.sha256_runs.proofs.schedules.first_words.Goals as goal
 
 pub loop-t-init : goal.loop-t-init

@@ -1,5 +1,5 @@
 -- `sha256_runs::schedules::first_words` meets its contract.
-use Rattle.std.proofs.Common.{◌≡◌, ◌-◌, ◌*◌, ◌≤◌, length, not-suc-le-zero, arith}
+use Rattle.std.proofs.Common.{◌≡◌, ◌-◌, ◌*◌, ◌≤◌, length}
 use Rattle.sha2_rules.specs.Parameters.{sha_256}
 use Rattle.sha2_rules.specs.Woven.{Woven}
 use Rattle.sha256_runs.proofs.schedules.first_words.Given as goal

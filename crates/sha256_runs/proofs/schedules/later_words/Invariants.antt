@@ -1,8 +1,7 @@
 -- `sha256_runs::schedules::later_words` meets its contract: up to place i the words are those of the eight schedules.
-use Rattle.std.proofs.Common.{◌≡◌, ℕ, ◌-◌, ◌≤◌, List, length, ◌∙◌, subst, arith, length-set}
+use Rattle.std.proofs.Common.{◌≡◌, ℕ, ◌-◌, ◌≤◌, List, length}
 use Rattle.sha2_rules.specs.Parameters.{sha_256}
 use Rattle.sha2_rules.specs.Woven.{Woven}
-use Rattle.sha2_rules.proofs.WovenLaws.{later_woven_lem, one_woven}
 use Rattle.sha256_runs.proofs.schedules.later_words.Given as goal
 
 abbrev pub invariant-loop-i : goal.invariant-loop-i

@@ -1,9 +1,7 @@
 -- `sha256_runs::schedules::row` meets its contract: up to place 8 t + l the words are those of the eight schedules.
-use Rattle.std.proofs.Common.{◌≡◌, ◌+◌, ◌-◌, ◌*◌, ◌≤◌, length, sym, ◌∙◌, arith, length-set}
-use Rattle.common.specs.BigEndianLaws.{number_in_part}
+use Rattle.std.proofs.Common.{◌≡◌, ◌+◌, ◌-◌, ◌*◌, ◌≤◌, length}
 use Rattle.sha2_rules.specs.Parameters.{sha_256}
-use Rattle.sha2_rules.specs.Woven.{woven_word, Woven}
-use Rattle.sha2_rules.proofs.WovenLaws.{one_woven, first_woven}
+use Rattle.sha2_rules.specs.Woven.{Woven}
 use Rattle.sha256_runs.proofs.schedules.row.Given as goal
 
 abbrev pub invariant-loop-l : goal.invariant-loop-l
