@@ -29,7 +29,7 @@ SOURCE = os.path.join(HERE, "test")
 COUNT = 7_000  # calls of each of three functions
 LOOP = 200_000  # instructions of the runner's loop
 TIMED = ["verify 179", "verify 16000", "sign 179", "sign 16000"]  # the first of the figures: a function, and the token's bytes
-KINDS = ["verify", "sign", "member"]
+KINDS = {"verify": 9, "sign": 9, "member": 4}  # the functions whose stack is measured, and how many arguments each has
 MINUTES = 10  # what is done in seconds, and isn't by then, hangs
 # The most text, and the most stack of verifying, that an archive may have.
 LIMITS = {"thumbv7em": (21_000, 5_000)}
@@ -105,8 +105,14 @@ def compare(machine, program):
     return len(calls.split(read("calls.bin"))), figures
 
 
+def passed(machine, kind):
+    """The most that the arguments of a call take of the stack, which is measured with the call's own."""
+    registers = {"x86-64-v3": 6, "aarch64": 8, "riscv64gc": 8}.get(machine.archive, 0)
+    return -(-max(0, KINDS[kind] - registers) // 2) * 16
+
+
 def measured(machine, figures, most):
-    """What was measured, in words. No call takes more stack than by its object code."""
+    """What was measured, in words. No call takes more stack than by its object code, but for its arguments."""
     names = read("figures.txt").decode().splitlines()
     if len(names) + 1 != len(figures):
         raise Refused(f"{machine.name}: {len(figures) - 1} figures, and {len(names)} names")
@@ -117,7 +123,7 @@ def measured(machine, figures, most):
             kind = name.split()[1]
             stack[kind] = max(stack[kind], bytes_)
     for kind, bytes_ in stack.items():
-        if bytes_ > most.get(f"jws_{kind}", bytes_):
+        if bytes_ > most.get(f"jws_{kind}", bytes_) + passed(machine, kind):
             raise Refused(f"{machine.name}: {kind} takes {bytes_:,} bytes of stack, and at most {most[f'jws_{kind}']:,} by its object code")
     said = ["stack: " + ", ".join(f"{kind} {bytes_:,}" for kind, bytes_ in stack.items()) + " bytes"]
     if machine.counted:

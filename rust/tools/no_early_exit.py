@@ -277,7 +277,8 @@ class Walk:
             self.write(state, last, size, read[0][0], None)
             return state
         result = computed(op, values)
-        if len(operands) == 2 and operands[0] == operands[1] and op in ("xor", "sub", "pxor", "xorps", "xorpd"):
+        zeroing = {2: ("xor", "sub", "pxor", "xorps", "xorpd"), 3: ("vpxor", "vxorps", "vxorpd")}.get(len(operands), ())
+        if op in zeroing and operands[0] == operands[1]:
             taint, result = 0, (None, 0)
         self.write(state, last, size, taint, result)
         if re.match("i?(mul|div)", op):

@@ -4,8 +4,8 @@
     tools/staticlib jws_ffi
     python3 rust/tools/stack_bound.py target/staticlib/libjws_ffi.a
 
-A function's frame is its return address, what it pushes and what it takes off the stack pointer; a call path takes the sum of its
-frames. Of an archive for x86-64 both are read off the instructions; of an object (not an archive) for another processor the frames are what
+A function's frame is its return address, what it pushes and what it takes off the stack pointer, and how far below that it reaches (one that
+calls nothing may use 128 bytes there); a call path takes the sum of its frames. Of an archive for x86-64 both are read off the instructions; of an object (not an archive) for another processor the frames are what
 the compiler says of them, in its sections .stack_sizes (-fstack-size-section), and the calls its relocations.
 
 The readers of values, arrays and objects call one another: a round through them takes a level of the depth, of which there are sixteen, and a
@@ -39,12 +39,12 @@ def read_sizes(path):
 
 def read(archive):
     """The frame of every function, and the functions that each one calls."""
-    frames, calls, current = {}, {}, None
+    frames, calls, below, current = {}, {}, {}, None
     text = subprocess.run(["objdump", "-dr", "--no-show-raw-insn", archive], check=True, capture_output=True, text=True).stdout
     for line in text.splitlines():
         if found := re.match(r"[0-9a-f]+ <([^>]+)>:", line):
             current = found[1]
-            frames[current], calls[current] = 8, set()
+            frames[current], calls[current], below[current] = 8, set(), 0
         elif found := re.search(r"\tsub +\$0x([0-9a-f]+),%rsp", line):
             frames[current] += int(found[1], 16)
         elif re.search(r"\tpush ", line):
@@ -53,6 +53,9 @@ def read(archive):
             calls[current].add(found[1])
         elif found := re.search(r"R_X86_64_PL\w*\s+(?:\.text\.)?(\S+?)(?:[-+]0x[0-9a-f]+)?$", line):
             calls[current].add(found[1])
+        if found := re.search(r"-0x([0-9a-f]+)\(%rsp", line):
+            below[current] = max(below[current], int(found[1], 16))
+    frames = {name: frame + below[name] for name, frame in frames.items()}
     return frames, {name: {callee for callee in callees if callee in frames} for name, callees in calls.items()}
 
 
