@@ -58,7 +58,8 @@ def move(crate, modules):
 def main():
     os.chdir(subprocess.check_output(["git", "rev-parse", "--show-toplevel"], text=True).strip())
     for crate, modules in MOVED.items():
-        move(crate, modules.split())
+        if os.path.isdir(f"crates/{crate}"):
+            move(crate, modules.split())
     paths = re.compile(r"\bRattle\.(%s)\.specs\.(\w+)" % "|".join(MOVED))
     links = re.compile(r"(crates/|\()?\b(%s)/specs/(\w+)\.antt" % "|".join(MOVED))
 
