@@ -108,7 +108,8 @@ fn its_tokens_are_accepted_and_signed_again() {
     };
     let mut small = [0; 2];
     for (case, token) in cases.iter().zip(&tokens) {
-        let verified = verify(token.as_bytes(), &case.table(), HEADER_MAX, PAYLOAD_MAX);
+        let room = if case.payload.len() <= 40 { 40 } else { PAYLOAD_MAX };
+        let verified = verify(token.as_bytes(), &case.table(), HEADER_MAX, room);
         assert_eq!(verified.answer, 0, "{:?}: {token}", case.kid);
         let (header, payload) = verified.parts();
         assert_eq!(payload, case.payload);
