@@ -1,4 +1,4 @@
-// Strict base64url without padding (RFC 4648 section 5) as definitions and theorems, in specs/, and the answers that they speak of. The crates
+// Strict base64url without padding (RFC 4648 section 5) as definitions and theorems, in specs/ and proofs/, and the answers that they speak of. The crates
 // `base64url_decoding` and `base64url_encoding` compute them.
 #![tactic(auto)]
 

@@ -1,2 +1,2 @@
--- An integer's decimal text: the definition, and examples.
+-- An integer's decimal text: the definition.
 pub mod Integer

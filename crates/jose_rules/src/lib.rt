@@ -1,5 +1,5 @@
 // What a header decides with a key table: the rules on its known members (RFC 7515 section 4 with the house rules; answers 2, 5 and 7
-// to 14) as definitions and theorems, in specs/, and the results that they speak of. `jose_facts`, `jose_judging` and `jose` compute them.
+// to 14) as definitions and theorems, in specs/ and proofs/, and the results that they speak of. `jose_facts`, `jose_judging` and `jose` compute them.
 #![tactic(auto)]
 
 // WHAT A HEADER SAYS of each known member, with no text and no place: `Absent` where it has no such member, `Wrong` where the member is

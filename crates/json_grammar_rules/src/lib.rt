@@ -1,4 +1,4 @@
-// The grammar of the header, its readings and places, and what is proved of them: see specs/. This crate has no code.
+// The grammar of the header, its readings and places, and what is proved of them: see specs/ and proofs/. This crate has no code.
 #![tactic(auto)]
 
 // The seven kinds of value.

@@ -1,4 +1,4 @@
--- The JSON header: its rules, what it answers, and the theorems on both.
+-- The JSON header: its rules, and what it answers.
 pub mod Rules
 pub mod Answers
 pub mod Tests

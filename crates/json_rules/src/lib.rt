@@ -1,5 +1,5 @@
-// A JSON header's rules as definitions and theorems, in specs/, and the answers that they speak of (RFC 8259 and RFC 3629, with the house rules).
-// The crates `json_check` and `json` compute them.
+// A JSON header's rules as definitions and theorems, in specs/ and proofs/, and the answers that they speak of (RFC 8259 and RFC 3629, with the house rules).
+// The crates `json_check` and `json_header` compute them.
 #![tactic(auto)]
 
 // The greatest length of a header, and the greatest depth, in which the top object is 1.

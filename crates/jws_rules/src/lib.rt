@@ -1,4 +1,4 @@
-// Compact tokens (RFC 7515 section 7.1) with HS256: what verifying and signing answer. The definitions and the promises stand in specs/, the functions in crates `jws`, `jws_payload` and `jws_signing`.
+// Compact tokens (RFC 7515 section 7.1) with HS256: what verifying and signing answer. The definitions stand in specs/ and the promises in proofs/, the functions in crates `jws`, `jws_payload` and `jws_signing`.
 #![tactic(auto)]
 
 use jose_rules::Choice;

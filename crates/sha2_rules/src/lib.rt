@@ -1,2 +1,2 @@
-// SHA-2 (FIPS 180-4) over the width of a word as definitions and theorems, in specs/. The crates `sha256_compression` and `sha256` compute SHA-256.
+// SHA-2 (FIPS 180-4) as definitions and theorems, in specs/ and proofs/. The crates `sha256_compression` and `sha256` compute SHA-256.
 #![tactic(auto)]
