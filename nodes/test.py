@@ -105,10 +105,14 @@ def compare(machine, program):
     return len(calls.split(read("calls.bin"))), figures
 
 
+# How many arguments each processor takes in registers, and the bytes of one; Arm's of 32 bits four.
+IN_REGISTERS = {"x86-64-v3": (6, 8), "aarch64": (8, 8), "riscv64gc": (8, 8), "riscv32imac": (8, 4)}
+
+
 def passed(machine, kind):
     """The most that the arguments of a call take of the stack, which is measured with the call's own."""
-    registers = {"x86-64-v3": 6, "aarch64": 8, "riscv64gc": 8}.get(machine.archive, 0)
-    return -(-max(0, KINDS[kind] - registers) // 2) * 16
+    registers, size = IN_REGISTERS.get(machine.archive, (4, 4))
+    return -(-max(0, KINDS[kind] - registers) * size // 16) * 16
 
 
 def measured(machine, figures, most):
