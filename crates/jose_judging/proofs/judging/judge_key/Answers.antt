@@ -26,11 +26,12 @@ allows_format-requires c =
 
 pub returns-then-allows_format : goal.returns-then-allows_format
 returns-then-allows_format c =
+    let allowed = sym c.allows_hs256.ensures ∙ c.if-allows_hs256.true in
     key_taken
     _
     _
     (sym (ap index_of c.in-At.is) ∙ c.key_of.ensures)
-    (sym c.allows_hs256.ensures ∙ c.if-allows_hs256.true)
+    allowed
     (number_is c.args.facts.fmt c.requires.2)
     ((small_is (key (keys c.args.table.now) c.in-At.index) (or_else (format_by c.args.facts.fmt) (pos 0)) c.small_format-f.ensures c.if-f-eq0.false).3 ∙ ap not (sym c.allows_format.ensures ∙ c.if-allows_format.true))
     c.kid_there.ensures
