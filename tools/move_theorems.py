@@ -12,6 +12,8 @@ import os
 import re
 import subprocess
 
+from respell import read, write
+
 MOVED = {
     "common": "FirstLaws Decided SameLaws",
     "base64url_rules": "AlphabetLaws Examples FaultLaws GroupLaws Grouping LengthLaws Listed OutcomeLaws RoundTrip StrictGroups Tables TextLaws",
@@ -24,16 +26,6 @@ MOVED = {
     "keytable_rules": "Examples GoodKeys KeyLaws TableLaws",
     "sha2_rules": "BlockLaws DigestLaws Examples FinishLaws ListLaws PaddedLaws PaddingLaws RoundLaws ScheduleLaws ValueLaws WordLaws WovenLaws",
 }
-
-
-def read(path):
-    with open(path, encoding="utf-8") as text:
-        return text.read()
-
-
-def write(path, text):
-    with open(path, "w", encoding="utf-8") as file:
-        file.write(text)
 
 
 def move(crate, modules):
