@@ -2,57 +2,66 @@
 #![tactic(auto)]
 
 ghost use Rattle.std.specs.Prelude.{◌≡◌, [], ◌∷◌};
+ghost use Rattle.answers.specs.Numbers.{number, answer};
 
-// Done.
+// What a call is answered where it is done.
 pub const DONE: u8 = 0;
 
-// The token has more than 32,768 bytes.
-pub const TOKEN_TOO_LONG: u8 = 1;
+// Why a call is refused, in the order of the numbers.
+#[derive(Clone, Copy, Debug, PartialEq, Eq)]
+pub enum Refusal {
+    // The token has more than 32,768 bytes.
+    TokenTooLong = 1,
+    // The table is bad.
+    BadTable = 2,
+    // There are fewer than two periods, or more.
+    NotTwoPeriods = 3,
+    // One of the three segments isn't strict.
+    NotBase64url = 4,
+    // The header has more than 4,096 bytes.
+    HeaderTooLong = 5,
+    // A buffer can't hold what belongs in it.
+    BufferTooShort = 6,
+    // The header isn't JSON by the grammar, or goes deeper than 16.
+    NotDerived = 7,
+    // An object in the header has a name twice.
+    NameTwice = 8,
+    // `alg` is missing, or a member with a meaning isn't what it must be.
+    WrongKind = 9,
+    // `crit` breaks its rules, or `fmt` stands there and isn't listed.
+    Critical = 10,
+    // `alg` is another algorithm.
+    WrongAlg = 11,
+    // `kid` is missing, or no key has this id.
+    NoKey = 12,
+    // The key doesn't allow HS256.
+    AlgNotAllowed = 13,
+    // The key doesn't allow the format, or there is no such format.
+    FormatNotAllowed = 14,
+    // The signature is another one.
+    SignatureDiffers = 15,
+    // The header has no member k.
+    NoSuchMember = 16,
+}
 
-// The table is bad.
-pub const BAD_TABLE: u8 = 2;
+// A refusal by its number. Rules out two refusals of one number.
+impl From<Refusal> for u8 {
+    ghost from_gives = { λ r n. n ≡ number r };
 
-// There are fewer than two periods, or more.
-pub const NOT_TWO_PERIODS: u8 = 3;
+    fn from(refusal: Refusal) -> u8 {
+        refusal as u8
+    }
+}
 
-// One of the three segments isn't strict.
-pub const NOT_BASE64URL: u8 = 4;
-
-// The header has more than 4,096 bytes.
-pub const HEADER_TOO_LONG: u8 = 5;
-
-// A buffer can't hold what belongs in it.
-pub const BUFFER_TOO_SHORT: u8 = 6;
-
-// The header isn't JSON by the grammar, or goes deeper than 16.
-pub const NOT_DERIVED: u8 = 7;
-
-// An object in the header has a name twice.
-pub const NAME_TWICE: u8 = 8;
-
-// `alg` is missing, or a member with a meaning isn't what it must be.
-pub const WRONG_KIND: u8 = 9;
-
-// `crit` breaks its rules, or `fmt` stands there and isn't listed.
-pub const CRITICAL: u8 = 10;
-
-// `alg` is another algorithm.
-pub const WRONG_ALG: u8 = 11;
-
-// `kid` is missing, or no key has this id.
-pub const NO_KEY: u8 = 12;
-
-// The key doesn't allow HS256.
-pub const ALG_NOT_ALLOWED: u8 = 13;
-
-// The key doesn't allow the format, or there is no such format.
-pub const FORMAT_NOT_ALLOWED: u8 = 14;
-
-// The signature is another one.
-pub const SIGNATURE_DIFFERS: u8 = 15;
-
-// The header has no member k.
-pub const NO_SUCH_MEMBER: u8 = 16;
+// The number of an answer. Rules out 0 for a refusal, and another number than 0 for what is done.
+pub fn number<T: Copy>(outcome: Result<T, Refusal>) -> u8
+    ensures { result ≡ answer outcome }
+{
+    match outcome {
+        Ok(_) => DONE,
+        Err(refusal) => refusal.into(),
+    }
+}
 
 // All of them, by their numbers. Rules out two names exchanged, and one number for two answers.
 pub fn all() -> [u8; 17]
@@ -60,21 +69,21 @@ pub fn all() -> [u8; 17]
 {
     [
         DONE,
-        TOKEN_TOO_LONG,
-        BAD_TABLE,
-        NOT_TWO_PERIODS,
-        NOT_BASE64URL,
-        HEADER_TOO_LONG,
-        BUFFER_TOO_SHORT,
-        NOT_DERIVED,
-        NAME_TWICE,
-        WRONG_KIND,
-        CRITICAL,
-        WRONG_ALG,
-        NO_KEY,
-        ALG_NOT_ALLOWED,
-        FORMAT_NOT_ALLOWED,
-        SIGNATURE_DIFFERS,
-        NO_SUCH_MEMBER,
+        Refusal::TokenTooLong.into(),
+        Refusal::BadTable.into(),
+        Refusal::NotTwoPeriods.into(),
+        Refusal::NotBase64url.into(),
+        Refusal::HeaderTooLong.into(),
+        Refusal::BufferTooShort.into(),
+        Refusal::NotDerived.into(),
+        Refusal::NameTwice.into(),
+        Refusal::WrongKind.into(),
+        Refusal::Critical.into(),
+        Refusal::WrongAlg.into(),
+        Refusal::NoKey.into(),
+        Refusal::AlgNotAllowed.into(),
+        Refusal::FormatNotAllowed.into(),
+        Refusal::SignatureDiffers.into(),
+        Refusal::NoSuchMember.into(),
     ]
 }
