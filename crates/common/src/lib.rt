@@ -4,17 +4,13 @@
 ghost use Rattle.std.specs.Prelude.{◌≡◌, ◌+◌, ◌≤◌, ◌<◌, length, replicate};
 ghost use Rattle.std.proofs.Math.Seq.{paste};
 ghost use Rattle.common.specs.BigEndian.{number2, number4};
-ghost use Rattle.common.specs.LittleEndian.{word4, word8};
+ghost use Rattle.common.specs.LittleEndian.{word8};
 
 // Sets every byte to 0. Rules out the first byte left as it was, and another byte than 0.
 pub fn zero(b: &mut [u8])
     ensures { b.new ≡ replicate (length b.old) 0 }
 {
-    let mut at: usize = 0;
-    while at < b.len() {
-        b[at] = 0;
-        at += 1;
-    }
+    b.fill(0);
 }
 
 // Copies src into dst from at on. Rules out one byte copied over and over, and the first byte left out.
@@ -22,18 +18,14 @@ pub fn copy_at(dst: &mut [u8], at: usize, src: &[u8])
     requires { at + length src.now ≤ length dst.old }
     ensures { dst.new ≡ paste dst.old at src.now (length src.now) }
 {
-    let mut i: usize = 0;
-    while i < src.len() {
-        dst[at + i] = src[i];
-        i += 1;
-    }
+    dst[at..at + src.len()].copy_from_slice(src);
 }
 
 // A byte as a wider number. Rules out one number for every byte, and half the byte.
 pub fn wide(x: u8) -> u32
     ensures { (result ≡ x) × (result < 256) }
 {
-    x as u32
+    u32::from(x)
 }
 
 // The number in the two bytes at i, the highest first. Rules out the high byte counted half, and the low byte read twice.
@@ -41,7 +33,7 @@ pub fn number2_at(b: &[u8], i: usize) -> u32
     requires { i + 1 < length b.now }
     ensures { (result ≡ number2 b.now i) × (result < 65536) }
 {
-    wide(b[i]) * 256 + wide(b[i + 1])
+    u32::from(u16::from_be_bytes([b[i], b[i + 1]]))
 }
 
 // The number in the four bytes at i, the highest first. Rules out the two high bytes counted half, and the last byte read twice.
@@ -49,15 +41,7 @@ pub fn number4_at(b: &[u8], i: usize) -> u32
     requires { i + 3 < length b.now }
     ensures { result ≡ number4 b.now i }
 {
-    ((wide(b[i]) * 256 + wide(b[i + 1])) * 256 + wide(b[i + 2])) * 256 + wide(b[i + 3])
-}
-
-// The word in the four bytes at i, the lowest first.
-fn word4_at(b: &[u8], i: usize) -> u32
-    requires { i + 3 < length b.now }
-    ensures { result ≡ word4 b.now i }
-{
-    ((wide(b[i + 3]) * 256 + wide(b[i + 2])) * 256 + wide(b[i + 1])) * 256 + wide(b[i])
+    u32::from_be_bytes([b[i], b[i + 1], b[i + 2], b[i + 3]])
 }
 
 // The word in the eight bytes at i, the lowest first: one load, to compare eight bytes at once.
@@ -66,5 +50,14 @@ pub fn word8_at(b: &[u8], i: usize) -> u64
     requires { i + 7 < length b.now }
     ensures { result ≡ word8 b.now i }
 {
-    word4_at(b, i + 4) as u64 * 4294967296 + word4_at(b, i) as u64
+    u64::from_le_bytes([
+        b[i],
+        b[i + 1],
+        b[i + 2],
+        b[i + 3],
+        b[i + 4],
+        b[i + 5],
+        b[i + 6],
+        b[i + 7],
+    ])
 }
