@@ -10,7 +10,7 @@ use Rattle.common.specs.Buffer.{filled}
 use Rattle.common.specs.First.{first}
 use Rattle.common.proofs.FirstLaws.{settle_good, settle_bad}
 use Rattle.common.specs.Laid.{cleared_from}
-use Rattle.jws_rules.specs.declared.Verified.{Verified}
+use Rattle.jws_rules.specs.Outcomes.{Verified}
 use Rattle.jws_rules.specs.Calls.{VerifyCall}
 use Rattle.jws_rules.specs.Token.{header_of, payload_of}
 use Rattle.jws_rules.specs.Outcomes.{given, refused}

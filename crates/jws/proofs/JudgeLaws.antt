@@ -25,7 +25,7 @@ use Rattle.jose_rules.specs.Rules.{terms_of}
 use Rattle.jose_rules.specs.HeaderTests.{jose_tests}
 use Rattle.jose_rules.specs.Decision.{decision_with}
 use Rattle.jose_rules.proofs.DecisionLaws.{with_refused, with_chosen}
-use Rattle.jws_rules.specs.declared.Verified.{Verified}
+use Rattle.jws_rules.specs.Outcomes.{Verified}
 use Rattle.jws_rules.specs.Calls.{VerifyCall}
 use Rattle.jws_rules.specs.Segments.{periods, front, back}
 use Rattle.jws_rules.specs.Token.{token_most, header_of, payload_of, signature_of, sent_input, secret_of}

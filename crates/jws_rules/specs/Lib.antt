@@ -4,5 +4,6 @@ pub mod Token
 pub mod Calls
 pub mod Rules
 pub mod Outcomes
--- The tests of the rules: what the contracts cite.
+-- The tests of the rules, and what the code's results stand for: what the contracts cite.
+pub mod Results
 pub mod Tests

@@ -4,11 +4,13 @@ use Rattle.common.specs.Buffer.{filled}
 use Rattle.jose_rules.specs.declared.Choice.{Choice}
 use Rattle.jose_rules.specs.Header.{nowhere}
 use Rattle.jws_rules.specs.declared.Record.{Record}
-use Rattle.jws_rules.specs.declared.Verified.{Verified}
-use Rattle.jws_rules.specs.declared.Signed.{Signed}
 use Rattle.jws_rules.specs.Calls.{VerifyCall}
 
--- VERIFYING hands back its result and the two lent buffers.
+-- VERIFYING answers with a number, and with what the token holds: zeros where it is refused. It hands back that and the two lent buffers.
+pub record Verified : Type 0 where
+  pub answer : ℕ
+  pub details : Record
+
 pub record VerifyOutcome : Type 0 where
   pub gives : Verified
   pub header : List ℕ
@@ -48,7 +50,11 @@ header_in v = take v.gives.details.header_length v.header
 abbrev pub payload_in : VerifyOutcome → List ℕ
 payload_in v = payload v.gives.details v.payload
 
--- SIGNING hands back its result and the lent buffer.
+-- SIGNING answers with a number, and with the token's length: 0 where none is made. It hands back that and the lent buffer.
+pub record Signed : Type 0 where
+  pub answer : ℕ
+  pub length : ℕ
+
 pub record SignOutcome : Type 0 where
   pub gives : Signed
   pub token : List ℕ

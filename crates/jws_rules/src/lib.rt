@@ -13,17 +13,3 @@ pub struct Record {
     pub payload_length: usize,
     pub choice: Choice,
 }
-
-// The answer, and what the token holds; zeros where it is refused.
-#[derive(Clone, Copy)]
-pub struct Verified {
-    pub answer: u8,
-    pub details: Record,
-}
-
-// The answer, and the token's length; 0 where none is made.
-#[derive(Clone, Copy)]
-pub struct Signed {
-    pub answer: u8,
-    pub length: usize,
-}

@@ -7,7 +7,7 @@ use lib.ListN.{length, take, drop, replicate}
 use borrow.Rule.Slice.PartMut.{put_mid}
 use Rattle.common.specs.Buffer.{filled, laid}
 use Rattle.common.specs.Laid.{cleared_from, take_laid}
-use Rattle.jws_rules.specs.declared.Signed.{Signed}
+use Rattle.jws_rules.specs.Outcomes.{Signed}
 use Rattle.jws_rules.specs.Outcomes.{SignOutcome, handed, unsigned, signed_as}
 use Rattle.jws_signing.specs.Written.{Written, unsigned_result}
 

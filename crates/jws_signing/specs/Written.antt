@@ -2,7 +2,7 @@
 use Rattle.std.specs.Prelude.{◌≡◌, List, ℕ, ◌≤◌, length, take}
 use Rattle.common.specs.Buffer.{filled}
 use Rattle.common.specs.First.{first, settle}
-use Rattle.jws_rules.specs.declared.Signed.{Signed}
+use Rattle.jws_rules.specs.Outcomes.{Signed}
 use Rattle.jws_rules.specs.Outcomes.{SignOutcome, signed_as, unsigned}
 use Rattle.jws_rules.specs.Tests.{length_tests}
 use Rattle.jws_rules.specs.Token.{token_of, finished_length}

@@ -4,10 +4,10 @@
 
 ghost use Rattle.std.specs.Counts.{IsPrefixLen};
 
-use answers::DONE;
+use answers::Refusal;
 use json_rules::LONGEST;
-use jws::Verified;
-use jws_rules::TOKEN_MOST;
+use jws_rules::{Record, TOKEN_MOST};
+use reading::read_full;
 use std::fs::File;
 use std::io;
 use std::io::Read;
@@ -23,40 +23,13 @@ const HEADER_ROOM: usize = LONGEST;
 
 const PAYLOAD_ROOM: usize = TOKEN_MOST / 4 * 3;
 
-fn say(rt: &impl Print, s: &[u8]) -> io::Result<()> {
-    rt.write_all(s)
-}
-
-fn field(rt: &impl Print, name: &[u8], n: usize) -> io::Result<()> {
-    say(rt, name)?;
-    print!(rt; "{n}")
-}
-
-fn print(rt: &impl Print, v: Verified) -> io::Result<()> {
-    let details = v.details;
-    let choice = details.choice;
-    if v.answer != DONE {
-        field(rt, b"refused ", v.answer as usize)?;
-    } else {
-        field(rt, b"accepted key=", choice.key_index)?;
-        field(rt, b" fmt=", choice.format as usize)?;
-        field(rt, b" payload=", details.payload_length)?;
+fn print(rt: &impl Print, verified: Result<Record, Refusal>) -> io::Result<()> {
+    match verified {
+        Ok(record) => println!(
+            rt; "accepted key={} fmt={} payload={}", record.choice.key_index, record.choice.format, record.payload_length
+        ),
+        Err(refusal) => println!(rt; "refused {}", u8::from(refusal)),
     }
-    say(rt, b"\n")
-}
-
-// Reads until the room is full, the file ends or a read fails, and answers how many bytes it put at the room's start.
-fn read_full(file: &mut impl Read, room: &mut [u8]) -> usize
-    ensures { IsPrefixLen result room.new }
-{
-    let mut n: usize = 0;
-    while n < room.len() {
-        match file.read(&mut room[n..]) {
-            Ok(0) | Err(_) => break,
-            Ok(k) => n += k,
-        }
-    }
-    n
 }
 
 // Whether the file is at its end: there a further read gives no byte. One that failed fails again, or goes on where it stopped.

@@ -1,6 +1,6 @@
 -- What was read stands within the room, whose length stays.
 use Rattle.std.proofs.Common.{length, ◌-◌, ◌≡◌, ◌≤◌}
-use Rattle.verify_token.proofs.read_full.Given as goal
+use Rattle.reading.proofs.read_full.Given as goal
 
 abbrev pub invariant-loop-n : goal.invariant-loop-n
 invariant-loop-n g l = (l.n ≤ length l.room) × (length l.room ≡ length l.initial.room)
