@@ -18,10 +18,9 @@ pub extern "C" fn jws_verify(
 ) -> u8
     ensures { verify_gives result words.new header.new payload.new ≡ verify_words (verified (verify_call token.now table.now header.old payload.old)) }
 {
-    let v = jws::verify(token, table, header, payload);
-    let details = words_of(v.details);
-    *words = details;
-    v.answer
+    let verified = jws::verify(token, table, header, payload);
+    *words = words_of(verified);
+    answers::number(verified)
 }
 
 // How many bytes of a payload buffer of so many are the payload, by a record's words; 0 if they don't fit.
@@ -45,7 +44,7 @@ pub extern "C" fn jws_sign(
 ) -> u8
     ensures { sign_gives result size.new token.new ≡ sign_words (signed (sign_call header.now payload.now table.now token.old)) }
 {
-    let s = jws_signing::sign(header, payload, table, token);
-    *size = s.length as u64;
-    s.answer
+    let signed = jws_signing::sign(header, payload, table, token);
+    *size = signed.unwrap_or(0) as u64;
+    answers::number(signed)
 }

@@ -1,28 +1,26 @@
 // A record as nine words, and the payload's length by them.
-ghost use Rattle.std.specs.Prelude.{◌≡◌, cond};
+ghost use Rattle.std.specs.Prelude.{◌≡◌};
+ghost use Rattle.jws_rules.specs.Results.{verify_result};
 ghost use Rattle.jws_words.specs.Words.{record_words, payload_word};
 
+use answers::Refusal;
 use jws_rules::Record;
 
-fn word_of(b: bool) -> u64
-    ensures { result ≡ cond b 1 0 }
-{
-    if b { 1 } else { 0 }
-}
-
-// A record as nine words.
+// What verifying answers with as nine words: its record, or zeros after a refusal.
 // Rules out the key's index and the payload's length exchanged, and the places of `typ` and of `cty`.
-pub fn words_of(details: Record) -> [u64; 9]
-    ensures { result ≡ record_words details }
+pub fn words_of(verified: Result<Record, Refusal>) -> [u64; 9]
+    ensures { result ≡ record_words (verify_result verified).details }
 {
-    let choice = details.choice;
-    let present = word_of(choice.kid_present);
+    let Ok(record) = verified else {
+        return [0; 9];
+    };
+    let choice = record.choice;
     [
-        details.header_length as u64,
-        details.payload_length as u64,
+        record.header_length as u64,
+        record.payload_length as u64,
         choice.key_index as u64,
-        present,
-        choice.format as u64,
+        u64::from(choice.kid_present),
+        u64::from(choice.format),
         choice.typ.start as u64,
         choice.typ.length as u64,
         choice.cty.start as u64,
