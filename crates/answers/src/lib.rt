@@ -4,7 +4,7 @@
 ghost use Rattle.std.specs.Prelude.{◌≡◌, [], ◌∷◌};
 ghost use Rattle.answers.specs.Numbers.{number, answer};
 
-// What a call is answered where it is done.
+// Done.
 pub const DONE: u8 = 0;
 
 // Why a call is refused, in the order of the numbers.

@@ -90,7 +90,12 @@ fn list() -> Vec<Entry> {
     table(&file("docs/SPECIFICATION.md"), "\n## Answers\n")
 }
 
-/// The list without 0, which is no refusal.
+/// 0 alone, which is no refusal.
+fn done() -> Vec<Entry> {
+    list().into_iter().filter(|entry| entry.number == 0).collect()
+}
+
+/// The list without 0.
 fn refusals() -> Vec<Entry> {
     list().into_iter().filter(|entry| entry.number != 0).collect()
 }
@@ -155,6 +160,17 @@ fn constants(text: &str) -> Vec<Entry> {
     constants
 }
 
+/// The cases `Name = number,` of Rattle's `Refusal`, with the comment before each.
+fn numbered_cases(text: &str) -> Vec<Entry> {
+    let body = between(text, "pub enum Refusal {\n", "\n}");
+    let lines: Vec<&str> = body.lines().map(str::trim).collect();
+    let case = |pair: &[&str]| {
+        let (name, number) = pair[1].trim_end_matches(',').split_once(" = ").unwrap();
+        entry(number.parse().unwrap(), Some(name), pair[0].strip_prefix("// "))
+    };
+    lines.chunks_exact(2).map(case).collect()
+}
+
 /// The cases of `Refusal` without `Unknown`, by its source: each with its doc comment and, in the order of `Refusal::ALL`, its number.
 fn cases(text: &str) -> Vec<Entry> {
     let body = between(text, "pub enum Refusal {\n", "\n}");
@@ -203,8 +219,10 @@ fn every_place_agrees() {
         none
     );
     assert_eq!(differences(&list(), &header_constants(&file("include/jws.h"))), none);
+    let answers = file("crates/answers/src/lib.rt");
+    assert_eq!(differences(&sentences(done()), &constants(&answers)), none);
     assert_eq!(
-        differences(&sentences(list()), &constants(&file("crates/answers/src/lib.rt"))),
+        differences(&camel_cases(sentences(refusals())), &numbered_cases(&answers)),
         none
     );
     assert_eq!(
@@ -226,6 +244,7 @@ fn every_comment_is_there() {
     for place in [
         header_constants(&file("include/jws.h")),
         constants(&file("crates/answers/src/lib.rt")),
+        numbered_cases(&file("crates/answers/src/lib.rt")),
         constants(&file("rust/reference/src/answer.rs")),
         cases(&file("rust/jws/src/refusal.rs")),
     ] {
