@@ -25,7 +25,11 @@ fn key_block(key: &[u8]) -> [u8; 64]
 fn xor_pad(block: [u8; 64], pad: u8) -> [u8; 64]
     ensures { result ≡ map (λ (x : ℕ). bit_xor x pad) block }
 {
-    block.map(|byte| byte ^ pad)
+    let mut padded = block;
+    for i in 0..64 {
+        padded[i] = block[i] ^ pad;
+    }
+    padded
 }
 
 // The hash of one block and then m.
