@@ -26,8 +26,8 @@ fn xor_pad(block: [u8; 64], pad: u8) -> [u8; 64]
     ensures { result ≡ map (λ (x : ℕ). bit_xor x pad) block }
 {
     let mut padded = block;
-    for i in 0..64 {
-        padded[i] = block[i] ^ pad;
+    for byte in padded.iter_mut() {
+        *byte ^= pad;
     }
     padded
 }
