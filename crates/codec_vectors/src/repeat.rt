@@ -2,21 +2,19 @@
 ghost use Rattle.std.specs.Prelude.{◌≤◌};
 
 use crate::text;
+use sha256::{Constants, Hasher};
 
 fn sha256(count: usize, x: u8) -> [u8; 32]
     requires { count ≤ 1000000 }
 {
-    let k = sha256::constants();
     let part = [x; 6400];
-    let mut state = sha256::initial();
-    let mut done: usize = 0;
-    while 6400 <= count - done {
-        let next = sha256::absorb(state, &k, &part);
-        state = next;
-        done += 6400;
+    let constants = Constants::new();
+    let mut hasher = Hasher::new(&constants);
+    for _ in 0..count / 6400 {
+        hasher.absorb(&part);
     }
-    let rest = count - done;
-    sha256::hash_after(state, &k, done, &part[0..rest])
+    let done = count / 6400 * 6400;
+    hasher.finish(done, &part[..count - done])
 }
 
 // .. with the count and the byte as a line writes them.

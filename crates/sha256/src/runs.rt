@@ -1,9 +1,10 @@
 // Runs of eight blocks, 512 bytes each.
 ghost use Rattle.std.specs.Prelude.{◌≡◌, ◌/◌, ◌%◌, ◌≤◌, length};
-ghost use Rattle.sha2_rules.specs.Parameters.{K as RoundConstants, sha_256};
+ghost use Rattle.sha2_rules.specs.Parameters.{sha_256};
 ghost use Rattle.sha2_rules.specs.Hash.{hash_value};
 
-use sha256_runs::compress_eight;
+use crate::Hasher;
+use sha256_runs::{Schedules, compress_eight};
 
 const RUN: usize = 512;
 
@@ -17,25 +18,20 @@ fn runs_pay() -> bool {
 pub(crate) fn in_runs(n: usize) -> usize
     ensures { (result ≤ n) × (result % 512 ≡ 0) }
 {
-    if runs_pay() {
-        return n / RUN * RUN;
-    }
-    0
+    if runs_pay() { n / RUN * RUN } else { 0 }
 }
 
-// The hash value after the runs of m, from the hash value s.
-pub(crate) fn absorb_runs(s: [u32; 8], k: &[u32; 64], m: &[u8]) -> [u32; 8]
-    requires { (k.now ≡ RoundConstants) × (length m.now % 512 ≡ 0) }
-    ensures { result ≡ hash_value sha_256 s m.now (length m.now / 64) }
-{
-    let mut words = [0u32; 512];
-    let mut v = s;
-    let mut at: usize = 0;
-    while at < m.len() {
-        let e = at + RUN;
-        let n = compress_eight(v, k, &mut words, &m[at..e]);
-        v = n;
-        at = e;
+impl Hasher<'_> {
+    // Adds the runs of m to the hash.
+    pub(crate) fn absorb_runs(&mut self, m: &[u8])
+        requires { length m.now % 512 ≡ 0 }
+        ensures { self.new.value ≡ hash_value sha_256 self.old.value m.now (length m.now / 64) }
+    {
+        let mut schedules = Schedules::new();
+        let (runs, _) = m.as_chunks::<512>();
+        for run in runs {
+            let next = compress_eight(self.value, self.constants, &mut schedules, run);
+            self.value = next;
+        }
     }
-    v
 }

@@ -6,3 +6,4 @@ mod rounds; // rounds.rt: the rounds of one of the eight, and the compression of
 mod schedules; // schedules.rt: the schedules, word by word side by side
 
 pub use rounds::compress_eight;
+pub use schedules::Schedules;

@@ -1,98 +1,87 @@
 // The rounds over one of eight schedules, and the compression of eight blocks.
-ghost use Rattle.std.specs.Prelude.{◌≡◌, ℕ, ◌+◌, ◌*◌, ◌<◌, List, length, slice_index};
+ghost use Rattle.std.specs.Prelude.{◌≡◌, ℕ, ◌+◌, ◌*◌, ◌<◌, List, slice_index};
 ghost use Rattle.sha2_rules.specs.Parameters.{K as RoundConstants, sha_256};
-ghost use Rattle.sha2_rules.specs.Compression.{◌⊞◌, T1, T2, round as Round, rounds, schedule, compressed};
+ghost use Rattle.sha2_rules.specs.Compression.{round as Round, rounds, schedule, compressed};
 ghost use Rattle.sha2_rules.specs.Hash.{hash_value};
 ghost use Rattle.sha2_rules.specs.Woven.{Woven, block_of};
 
-use crate::schedules::{first_words, later_words};
-use sha256_compression::added;
+use crate::schedules::Schedules;
+use sha256_compression::{Constants, RoundSums, added, round};
 use sha256_words::{big_sigma0, big_sigma1, ch, maj};
-use std::num::wrapping_add_u32;
 
-// T1 of a round, of the sum of its constant and its word. What e decides is added last, since e is known last.
-fn t1(v: [u32; 8], sum: u32) -> u32
-    ensures { (k w : ℕ) → sum ≡ ◌⊞◌ sha_256 k w → result ≡ T1 sha_256 v k w }
-{
-    wrapping_add_u32(
-        wrapping_add_u32(wrapping_add_u32(v[7], sum), ch(v[4], v[5], v[6])),
-        big_sigma1(v[4]),
-    )
-}
+// The sums with the shortest chains of operations: quickest where nothing but the rounds is left to do. What e decides is added last, since e is
+// known last.
+struct ShortChains;
 
-// T2 of a round.
-fn t2(v: [u32; 8]) -> u32
-    ensures { result ≡ T2 sha_256 v }
-{
-    wrapping_add_u32(big_sigma0(v[0]), maj(v[0], v[1], v[2]))
-}
+impl RoundSums for ShortChains {
+    fn t1(v: [u32; 8], k: u32, w: u32) -> u32 {
+        let [_, _, _, _, e, f, g, h] = v;
+        h.wrapping_add(k.wrapping_add(w))
+            .wrapping_add(ch(e, f, g))
+            .wrapping_add(big_sigma1(e))
+    }
 
-// One round, of the sum of its constant and its word.
-fn round(v: [u32; 8], sum: u32) -> [u32; 8]
-    ensures { (k w : ℕ) → sum ≡ ◌⊞◌ sha_256 k w → result ≡ Round sha_256 v k w }
-{
-    let x = t1(v, sum);
-    let y = t2(v);
-    [
-        wrapping_add_u32(x, y),
-        v[0],
-        v[1],
-        v[2],
-        wrapping_add_u32(v[3], x),
-        v[4],
-        v[5],
-        v[6],
-    ]
+    fn t2(v: [u32; 8]) -> u32 {
+        let [a, b, c, _, _, _, _, _] = v;
+        big_sigma0(a).wrapping_add(maj(a, b, c))
+    }
 }
 
 // Round t of block l.
-fn round_at(v: [u32; 8], k: &[u32; 64], w: &[u32; 512], t: usize, l: usize) -> [u32; 8]
+fn round_at(
+    v: [u32; 8],
+    constants: &Constants,
+    schedules: &Schedules,
+    t: usize,
+    l: usize,
+) -> [u32; 8]
     requires { (t < 64) × (l < 8) }
-    ensures { result ≡ Round sha_256 v (slice_index k.now t) (slice_index w.now (t * 8 + l)) }
+    ensures { result ≡ Round sha_256 v (slice_index RoundConstants t) (slice_index schedules.now.words (t * 8 + l)) }
 {
-    round(v, wrapping_add_u32(k[t], w[t * 8 + l]))
+    round::<ShortChains>(v, constants.at(t), schedules.word(t, l))
 }
 
 // All rounds of block l, two in a turn of the loop as in `sha256_compression`.
-fn all_rounds(s: [u32; 8], k: &[u32; 64], w: &[u32; 512], l: usize) -> [u32; 8]
-    requires { (k.now ≡ RoundConstants) × (l < 8) }
-    ensures { (b : List ℕ) → Woven sha_256 b w.now 512 → result ≡ rounds sha_256 s (schedule sha_256 (block_of sha_256 b l) 64) 64 }
+fn all_rounds(value: [u32; 8], constants: &Constants, schedules: &Schedules, l: usize) -> [u32; 8]
+    requires { l < 8 }
+    ensures { (b : List ℕ) → Woven sha_256 b schedules.now.words 512 → result ≡ rounds sha_256 value (schedule sha_256 (block_of sha_256 b l) 64) 64 }
 {
-    let mut v = s;
-    let mut t: usize = 0;
-    while t < 64 {
-        let a = round_at(v, k, w, t, l);
-        let n = round_at(a, k, w, t + 1, l);
-        v = n;
-        t += 2;
+    let mut v = value;
+    for turn in 0..32 {
+        let t = 2 * turn;
+        let once = round_at(v, constants, schedules, t, l);
+        let twice = round_at(once, constants, schedules, t + 1, l);
+        v = twice;
     }
     v
 }
 
 // The hash value after block l.
-fn compress_one(s: [u32; 8], k: &[u32; 64], w: &[u32; 512], l: usize) -> [u32; 8]
-    requires { (k.now ≡ RoundConstants) × (l < 8) }
-    ensures { (b : List ℕ) → Woven sha_256 b w.now 512 → result ≡ compressed sha_256 s (block_of sha_256 b l) }
+#[tactic(auto, unfolding(sha2_rules::specs::Compression::compressed))]
+fn compress_one(value: [u32; 8], constants: &Constants, schedules: &Schedules, l: usize) -> [u32; 8]
+    requires { l < 8 }
+    ensures { (b : List ℕ) → Woven sha_256 b schedules.now.words 512 → result ≡ compressed sha_256 value (block_of sha_256 b l) }
 {
-    let v = all_rounds(s, k, w, l);
-    added(v, s)
+    let v = all_rounds(value, constants, schedules, l);
+    added(v, value)
 }
 
-// The hash value after the eight blocks of b. Their schedules are made in w, which a caller lends for many runs.
+// The hash value after the eight blocks of a run. Their schedules are made in a place that a caller lends for many runs.
 // Rules out the first block in the place of each, and a last block left out.
-pub fn compress_eight(s: [u32; 8], k: &[u32; 64], w: &mut [u32; 512], b: &[u8]) -> [u32; 8]
-    requires { (k.now ≡ RoundConstants) × (length w.old ≡ 512) × (length b.now ≡ 512) }
-    ensures words { (length w.new ≡ 512) × Woven sha_256 b.now w.new 512 }
-    ensures value { result ≡ hash_value sha_256 s b.now 8 }
+pub fn compress_eight(
+    value: [u32; 8],
+    constants: &Constants,
+    schedules: &mut Schedules,
+    run: &[u8; 512],
+) -> [u32; 8]
+    ensures words { Woven sha_256 run.now schedules.new.words 512 }
+    ensures value { result ≡ hash_value sha_256 value run.now 8 }
 {
-    first_words(b, w);
-    later_words(w);
-    let mut v = s;
-    let mut l: usize = 0;
-    while l < 8 {
-        let n = compress_one(v, k, w, l);
-        v = n;
-        l += 1;
+    schedules.make(run);
+    let mut v = value;
+    for l in 0..8 {
+        let next = compress_one(v, constants, schedules, l);
+        v = next;
     }
     v
 }

@@ -3,8 +3,6 @@ ghost use Rattle.std.specs.Prelude.{◌≡◌, ◌<◌};
 ghost use Rattle.sha2_rules.specs.Words.{Maj, three_rotations};
 ghost use Rattle.sha2_rules.specs.Parameters.{Sigma0, Sigma1};
 
-use crate::words::rotr;
-
 // Maj, by which of x and y, and of y and z, differ: the next round, whose y and z are these x and y, has the second of them already.
 // Rules out x where not both pairs differ.
 pub fn maj_in_pairs(x: u32, y: u32, z: u32) -> u32
@@ -18,7 +16,7 @@ fn nested_rotations(x: u32, a: u32, b: u32, c: u32) -> u32
     requires { (0 < a) × (a < b) × (b < c) × (c < 32) }
     ensures { result ≡ three_rotations 32 a b c x }
 {
-    rotr(rotr(rotr(x, c - b) ^ x, b - a) ^ x, a)
+    ((x.rotate_right(c - b) ^ x).rotate_right(b - a) ^ x).rotate_right(a)
 }
 
 // Rules out the bits of another rotation.

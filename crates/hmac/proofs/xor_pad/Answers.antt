@@ -1,22 +1,14 @@
 -- `hmac::xor_pad` meets its contract.
-use mathlib.Core.Path.{◌≡◌, ap, sym, ◌∙◌}
-use mathlib.Core.List.{map}
-use Prim.Native.Nat.{ℕ, ◌-◌}
-use native.Mathlib.Omega.{arith}
-use lib.Bits.{bit_xor}
-use lib.ListN.{length-set}
-use lib.Seq.{take_all}
-use Rattle.hmac.proofs.KeyLaws.{one_mapped}
+use Rattle.std.proofs.Common.{◌≡◌, ℕ, length, sym, ◌∙◌, arith}
+use Rattle.std.proofs.lemmas.List.{length-map, get_or-map}
+use Rattle.std.proofs.lemmas.Grind.{same_number_lists}
+use Rattle.std.specs.Int.Bits.{bit_xor}
 use Rattle.hmac.proofs.xor_pad.Goals as goal
-
-pub loop-i-preserved : goal.loop-i-preserved
-loop-i-preserved c = (
-  omega arith,
-  simp length-set c.loop-i.invariant.1,
-  one_mapped (λ (x : ℕ). bit_xor x c.args.pad) c.args.b c.loop-i.r c.loop-i.i (omega arith) (omega arith) c.loop-i.invariant.2,
-)
 
 pub returns : goal.returns
 returns c =
-    let e : c.loop-i.i ≡ 64 = omega arith in
-    sym (take_all 64 c.loop-i.r (omega arith)) ∙ (rw e at c.loop-i.invariant.2) ∙ ap (map (λ (x : ℕ). bit_xor x c.args.pad)) (take_all 64 c.args.b (omega arith))
+    let f = λ (x : ℕ). bit_xor x c.args.pad in
+    let i = c.loop-byte.invariant in
+    let n : length c.args.block ≡ 64 = omega arith in
+    same_number_lists _ _ (i.size ∙ sym (length-map c.args.block f ∙ n))
+    (λ k h. i.done k (omega arith) ∙ sym (get_or-map f c.args.block k 0 0 (omega arith)))

@@ -1,7 +1,5 @@
 -- `sha256::sha256` meets its contract.
-use mathlib.Core.Path.{refl, ◌∙◌}
-use mathlib.Core.List.{[]}
-use native.Mathlib.Omega.{arith}
+use Rattle.std.proofs.Common.{[], refl, ◌∙◌, arith}
 use Rattle.sha2_rules.specs.Parameters.{sha_256}
 use Rattle.sha2_rules.specs.Hash.{hash_value}
 use Rattle.sha2_rules.proofs.BlockLaws.{after_blocks}
@@ -9,5 +7,4 @@ use Rattle.sha256.proofs.sha256.Goals as goal
 
 pub returns : goal.returns
 unfolding hash_value
-returns c =
-    c.hash_after.ensures ∙ rw c.initial-s.ensures (after_blocks sha_256 [] c.args.m.now (omega arith) refl)
+returns c = c.finish.ensures ∙ rw c.new-2.ensures (after_blocks sha_256 [] c.args.m.now (omega arith) refl)

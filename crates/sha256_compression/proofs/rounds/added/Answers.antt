@@ -1,5 +1,5 @@
 -- `sha256_compression::rounds::added` meets its contract.
-use Rattle.std.proofs.Common.{◌≡◌, ◌-◌, sym, refl, ◌∙◌, arith, length-set, take_all}
+use Rattle.std.proofs.Common.{◌≡◌, sym, refl, ◌∙◌, arith, length-set, take_all}
 use Rattle.sha2_rules.specs.Parameters.{sha_256}
 use Rattle.sha2_rules.specs.Compression.{sums}
 use Rattle.sha2_rules.proofs.RoundLaws.{one_sum}
@@ -7,16 +7,15 @@ use Rattle.sha256_compression.proofs.rounds.added.Goals as goal
 
 pub loop-i-init : goal.loop-i-init
 unfolding sums
-loop-i-init c = (omega arith, omega arith, refl)
+loop-i-init c = (omega arith, refl)
 
 pub loop-i-preserved : goal.loop-i-preserved
 loop-i-preserved c = (
-  omega arith,
-  simp length-set c.loop-i.invariant.1,
-  one_sum sha_256 c.args.v c.args.h c.loop-i.r c.loop-i.i c.wrapping_add_u32.result (omega arith) c.loop-i.invariant.2 c.wrapping_add_u32.ensures.value,
+  simp length-set c.loop-i.invariant.0,
+  one_sum sha_256 c.args.v c.args.h c.loop-i.sums c.loop-i.i _ (omega arith) c.loop-i.invariant.1 refl,
 )
 
 pub returns : goal.returns
 returns c =
     let e : c.loop-i.i ≡ 8 = omega arith in
-    sym (take_all 8 c.loop-i.r (omega arith)) ∙ (rw e at c.loop-i.invariant.2)
+    sym (take_all 8 c.loop-i.sums (omega arith)) ∙ (rw e at c.loop-i.invariant.1)

@@ -1,34 +1,39 @@
 -- `sha256_compression::rounds::all_rounds` meets its contract.
-use Rattle.std.proofs.Common.{◌≡◌, ◌+◌, ◌-◌, set, refl, arith, length-set}
+use Rattle.std.proofs.Common.{◌≡◌, ◌+◌, ◌*◌, set, refl, arith, length-set}
 use Rattle.sha2_rules.specs.Parameters.{sha_256}
 use Rattle.sha2_rules.specs.Compression.{rounds}
 use Rattle.sha2_rules.proofs.ScheduleLaws.{one_later}
 use Rattle.sha2_rules.proofs.RoundLaws.{two_more}
 use Rattle.sha256_compression.proofs.rounds.all_rounds.Goals as goal
 
-pub loop-t-init : goal.loop-t-init
+pub making-init : goal.making-init
 unfolding rounds
-loop-t-init c = (omega arith, omega arith, omega arith, c.block_words-w.ensures, refl)
+making-init c = record { words_len = omega arith; words = c.block_words-w.ensures; value = refl }
 
-pub loop-t-preserved : goal.loop-t-preserved
-loop-t-preserved c =
-    let w1 = one_later sha_256 c.args.b.now c.loop-t.w (c.loop-t.t + 16) (c.loop-t.t + 17) c.later_word-x.result (omega arith) (omega arith) (omega arith) c.loop-t.invariant.3 c.later_word-x.ensures in (
-      omega arith,
-      omega arith,
-      simp length-set c.loop-t.invariant.2,
-      one_later sha_256 c.args.b.now (set c.loop-t.w (c.loop-t.t + 16) c.later_word-x.result) (c.loop-t.t + 17) (c.loop-t.t + 2 + 16) c.later_word-y.result (omega arith) (omega arith) (simp length-set (omega arith)) w1 c.later_word-y.ensures,
-      two_more sha_256 c.args.s c.args.b.now c.args.k.now c.loop-t.w c.loop-t.t (c.loop-t.t + 16) 64 c.requires.0 (omega arith) (omega arith) c.loop-t.invariant.3 c.loop-t.invariant.4 c.two_rounds-n.ensures,
-    )
+pub making-preserved : goal.making-preserved
+making-preserved c =
+    let t = 2 * c.making.turn in
+    let b = c.args.block.now in
+    let i = c.making.invariant in
+    let next : 2 * (c.making.turn + 1) ≡ t + 2 = omega arith in
+    let w1 = one_later sha_256 b c.making.w (t + 16) (t + 17) c.later_word.result (omega arith) (omega arith) (omega arith) i.words c.later_word.ensures in
+    record {
+      words_len = simp length-set i.words_len;
+      words = rw next (one_later sha_256 b (set c.making.w (t + 16) c.later_word.result) (t + 17) (t + 2 + 16) c.later_word-in-making.result (omega arith) (omega arith) (simp length-set (omega arith)) w1 c.later_word-in-making.ensures);
+      value = rw next (two_more sha_256 c.args.value b _ c.making.w t (t + 16) 64 refl (omega arith) (omega arith) i.words i.value c.two_rounds-next.ensures);
+    }
 
-pub loop-t-2-preserved : goal.loop-t-2-preserved
-loop-t-2-preserved c =
-    let e : c.loop-t.t + 16 ≡ 64 = omega arith in (
-      omega arith,
-      omega arith,
-      λ s h. two_more sha_256 s c.args.b.now c.args.k.now c.loop-t.w c.loop-t-2.t 64 64 c.requires.0 (omega arith) (omega arith) (rw e at c.loop-t.invariant.3) (c.loop-t-2.invariant.2 s h) c.two_rounds-n-in-loop-t-2.ensures,
-    )
+pub last-init : goal.last-init
+last-init c = λ s h. h
+
+pub last-preserved : goal.last-preserved
+last-preserved c = λ s h.
+    let made : 2 * c.making.turn + 16 ≡ 64 = omega arith in
+    let next : 2 * (c.last.turn + 1) ≡ 2 * c.last.turn + 2 = omega arith in
+    rw next (two_more sha_256 s c.args.block.now _ c.making.w (2 * c.last.turn) 64 64 refl (omega arith) (omega arith) (rw made at c.making.invariant.words) (c.last.invariant s h) c.two_rounds-next-in-last.ensures)
 
 pub returns : goal.returns
 returns c =
-    let e : c.loop-t-2.t ≡ 64 = omega arith in
-    rw e at (c.loop-t-2.invariant.2 c.args.s c.loop-t.invariant.4)
+    let made : 2 * c.making.turn ≡ 48 = omega arith in
+    let all : 2 * c.last.turn ≡ 64 = omega arith in
+    rw all at (c.last.invariant c.args.value (rw made at c.making.invariant.value))

@@ -1,5 +1,5 @@
 -- `sha256_runs::rounds::compress_eight` meets its contract.
-use Rattle.std.proofs.Common.{◌≡◌, ◌-◌, refl, add-one, arith}
+use Rattle.std.proofs.Common.{◌≡◌, refl, add-one, arith}
 use Rattle.sha2_rules.specs.Parameters.{sha_256}
 use Rattle.sha2_rules.specs.Hash.{hash_value}
 use Rattle.sha2_rules.proofs.ValueLaws.{next_block}
@@ -7,14 +7,13 @@ use Rattle.sha256_runs.proofs.rounds.compress_eight.Goals as goal
 
 pub loop-l-init : goal.loop-l-init
 unfolding hash_value
-loop-l-init c = (omega arith, refl)
+loop-l-init c = refl
 
 pub loop-l-preserved : goal.loop-l-preserved
 loop-l-preserved c =
-    let woven = c.later_words.ensures.by_index c.args.b.now c.first_words.ensures.woven in
-    (omega arith, rw add-one (next_block sha_256 c.args.s c.args.b.now c.loop-l.l c.loop-l.invariant.1 (c.compress_one-n.ensures c.args.b.now woven)))
+    rw add-one (next_block sha_256 c.args.value c.args.run.now c.loop-l.l c.loop-l.invariant (c.compress_one-next.ensures c.args.run.now c.make.ensures))
 
 pub returns : goal.returns
 returns c =
     let e : c.loop-l.l ≡ 8 = omega arith in
-    record { words = (c.later_words.ensures.w_len, c.later_words.ensures.by_index _ c.first_words.ensures.woven); value = rw e at c.loop-l.invariant.1 }
+    record { words = c.make.ensures; value = rw e at c.loop-l.invariant }
