@@ -104,6 +104,7 @@ const VALUES: [i8; 256] = [
 ];
 
 // The value of every character, and a number below 0 outside the alphabet.
+#[derive(Drop)]
 pub struct Values {
     entries: [i8; 256],
     ghost right: { entries ≡ values },

@@ -7,6 +7,7 @@ use crate::values::Values;
 use crate::words::Table;
 
 // The value of every character, and then every value six bits up.
+#[derive(Drop)]
 pub struct Wide {
     entries: [i32; 512],
     ghost right: { entries ≡ wide },

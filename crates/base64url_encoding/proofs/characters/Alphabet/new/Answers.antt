@@ -2,8 +2,8 @@
 use mathlib.Core.Path.{refl}
 use Rattle.base64url_rules.specs.Alphabet.{character}
 use Rattle.base64url_rules.proofs.Tables.{entries, characters}
-use Rattle.base64url_encoding.proofs.characters.alphabet.Goals as goal
+use Rattle.base64url_encoding.proofs.characters.Alphabet.new.Goals as goal
 
-pub returns : goal.returns
+pub invariant_of-result : goal.invariant_of-result
 unfolding characters entries character
-returns c = refl
+invariant_of-result c = record { right = refl }
