@@ -2,14 +2,12 @@
 use mathlib.Core.Path.{◌≡◌, refl, ap, sym, ◌∙◌}
 use mathlib.Core.Bool.{Bool, true, false, cond, ◌&&◌, false≢true}
 use mathlib.Core.List.{List, [], ◌∷◌, ◌++◌}
-use Prim.Native.Nat.{ℕ, zero, suc, ◌+◌, ◌-◌, ◌*◌, ◌/◌, ◌%◌, ◌≤◌, ◌<◌}
+use Prim.Native.Nat.{ℕ, ◌+◌, ◌-◌, ◌*◌, ◌/◌, ◌%◌, ◌≤◌}
 use native.Mathlib.Omega.{arith}
 use lib.ListN.{length, get_or, take, drop, take-append-drop, length-drop}
 use lib.Seq.{take-add, length-take-le}
 use borrow.Rule.Slice.PartMut.{put_mid}
-use Rattle.std.proofs.Common.{drop-drop}
 use Rattle.std.specs.Prelude.{Some, None}
-use Rattle.std.specs.Simd.{first_chunks}
 use Rattle.common.specs.Buffer.{laid}
 use Rattle.common.specs.Laid.{part_from}
 use Rattle.base64url_rules.specs.Base64url.{decode, alphabetic, unused_bits, strict}
@@ -80,18 +78,6 @@ module _ (s out₀ out : List ℕ) (i : ℕ) (hs : i * 8 + 8 ≤ length s) (d : 
 
   pub refused : None ≡ grouped next → Decodes s out₀ false out
   refused e = not_strict (front_refused s ((i + 1) * 8) (omega arith) (omega arith) (strict_next ∙ no_group next e))
-
--- the pair that stands there, among the pairs of a text
-chunk_at : (n i : ℕ) (s : List ℕ) → i < n → get_or (first_chunks 8 n s) i [] ≡ take 8 (drop (i * 8) s)
-chunk_at zero i s h = absurd (omega arith)
-chunk_at (suc n) zero s h = refl
-chunk_at (suc n) (suc i) s h =
-    let e : suc i * 8 ≡ 8 + i * 8 = omega arith in
-    chunk_at n i (drop 8 s) (omega arith) ∙ rw e (ap (take 8) (drop-drop (i * 8) 8 s))
-
-pub pair_at : (s : List ℕ) (i : ℕ) {pairs : List (List ℕ)} → pairs ≡ first_chunks 8 (length s / 8) s → i < length s / 8
-    → get_or pairs i [] ≡ take 8 (drop (i * 8) s)
-pair_at s i e h = rw e (chunk_at (length s / 8) i s h)
 
 -- a group at the front, number by number
 abbrev pub first_four : List ℕ → List ℕ

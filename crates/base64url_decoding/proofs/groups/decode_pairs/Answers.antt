@@ -3,8 +3,9 @@ use mathlib.Core.Path.{ap, sym, ◌∙◌}
 use Prim.Native.Nat.{◌+◌, ◌-◌, ◌*◌}
 use native.Mathlib.Omega.{arith}
 use lib.Seq.{take_all}
+use Rattle.base64url_rules.proofs.Grouping.{chunk_at}
 use Rattle.base64url_words.specs.Words.{grouped}
-use Rattle.base64url_decoding.proofs.DecodeLaws.{nothing, pair_at, one_more, refused}
+use Rattle.base64url_decoding.proofs.DecodeLaws.{nothing, one_more, refused}
 use Rattle.base64url_decoding.proofs.groups.decode_pairs.Goals as goal
 
 pub loop-i-init : goal.loop-i-init
@@ -12,12 +13,12 @@ loop-i-init g c = nothing _
 
 pub returns-in_default : goal.returns-in_default
 returns-in_default g c =
-    let pair = pair_at c.args.text.now c.loop-i.i c.as_chunks.ensures.front (omega arith) in
+    let pair = chunk_at 8 _ c.loop-i.i c.args.text.now c.as_chunks.ensures.front (omega arith) in
     refused c.args.text.now c.args.out.now c.loop-i.out c.loop-i.i (omega arith) c.loop-i.invariant (sym c.in_default.is ∙ c.two_groups.ensures ∙ ap grouped pair)
 
 pub loop-i-preserved : goal.loop-i-preserved
 loop-i-preserved g c =
-    let pair = pair_at c.args.text.now c.loop-i.i c.as_chunks.ensures.front (omega arith) in
+    let pair = chunk_at 8 _ c.loop-i.i c.args.text.now c.as_chunks.ensures.front (omega arith) in
     one_more c.args.text.now c.args.out.now c.loop-i.out c.loop-i.i (omega arith) c.loop-i.invariant (c.loop-i.i * 6 + 6 - c.loop-i.i * 6) (omega arith)
     (sym c.in-Some.is ∙ c.two_groups.ensures ∙ ap grouped pair) c.copy_from_slice.ensures.after
 
