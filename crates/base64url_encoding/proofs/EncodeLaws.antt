@@ -5,26 +5,27 @@ use Prim.Native.Nat.{ℕ, ◌+◌, ◌-◌, ◌*◌, ◌/◌, ◌%◌, ◌≤◌
 use native.Mathlib.Omega.{arith}
 use lib.ListN.{length, get_or, take, drop, set, length-drop}
 use lib.Seq.{length-take-le}
-use borrow.Rule.Slice.PartMut.{put_mid}
 use Rattle.common.specs.Buffer.{laid}
-use Rattle.common.specs.Laid.{laid_stores, part_from}
+use Rattle.common.specs.Laid.{four_stores, laid_stores, part_from}
 use Rattle.base64url_rules.specs.Base64url.{encode, encoded_length}
-use Rattle.base64url_rules.proofs.Grouping.{encode_grouping, part_laid}
+use Rattle.base64url_rules.proofs.Grouping.{encode_grouping, part_more}
 use Rattle.base64url_rules.proofs.LengthLaws.{length_encode, encoded_length_lem}
 use Rattle.base64url_rules.proofs.Listed.{as_entries}
 use Rattle.base64url_rules.proofs.Tables.{entries}
 
--- after i groups comes the next, and its text is copied behind theirs
-pub group_more : (s out₀ : List ℕ) (i j : ℕ) {out group new : List ℕ} → i * 3 + 3 ≤ length s → j ≡ 4 → group ≡ take 3 (drop (i * 3) s)
-    → out ≡ laid (encode (take (i * 3) s)) out₀ → new ≡ encode (get_or group 0 0 ∷ get_or group 1 0 ∷ get_or group 2 0 ∷ [])
-    → put_mid (i * 4) j out new ≡ laid (encode (take ((i + 1) * 3) s)) out₀
+-- after i groups comes the next, and its text is stored behind theirs
+pub group_more : (s out₀ : List ℕ) (i : ℕ) {out group text : List ℕ} → i * 3 + 3 ≤ length s → i * 4 + 4 ≤ length out₀ → group ≡ take 3 (drop (i * 3) s)
+    → out ≡ laid (encode (take (i * 3) s)) out₀ → text ≡ encode (get_or group 0 0 ∷ get_or group 1 0 ∷ get_or group 2 0 ∷ [])
+    → set (set (set (set out (i * 4) (get_or text 0 0)) (i * 4 + 1) (get_or text 1 0)) (i * 4 + 2) (get_or text 2 0)) (i * 4 + 3) (get_or text 3 0)
+    ≡ laid (encode (take ((i + 1) * 3) s)) out₀
 unfolding entries
-group_more s out₀ i j {out} {group} {new} h k g e f =
+group_more s out₀ i {out} {group} {text} h k g e f =
     let three : length group ≡ 3 = ap length g ∙ length-take-le 3 (drop (i * 3) s) (rw (length-drop (i * 3) s) (omega arith)) in
-    let text : encode group ≡ new = ap encode (sym (as_entries group 3 three)) ∙ sym f in
-    let four : length new ≡ 4 = omega (arith, ap length text, length_encode group, encoded_length_lem (length group)) in
-    part_laid encode_grouping s out₀ (i * 3) (i * 4) (omega arith) (omega arith) (omega arith) 3 j ((i + 1) * 3) (omega arith) (omega arith) e
-    (ap encode (sym g) ∙ text)
+    let whole : encode group ≡ text = ap encode (sym (as_entries group 3 three)) ∙ sym f in
+    let four : length text ≡ 4 = omega (arith, ap length whole, length_encode group, encoded_length_lem (length group)) in
+    four_stores out (i * 4) (get_or text 0 0) (get_or text 1 0) (get_or text 2 0) (get_or text 3 0)
+    ∙ part_more encode_grouping s out₀ (i * 3) (i * 4) (omega arith) (omega arith) (omega arith) 3 ((i + 1) * 3) (omega arith) (omega arith) e
+    (ap encode (sym g) ∙ whole ∙ sym (as_entries text 4 four))
 
 -- the rest is short, and fits where the whole does
 pub rest_fits : (s out : List ℕ) → encoded_length (length s) ≤ length out

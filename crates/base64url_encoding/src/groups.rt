@@ -24,8 +24,13 @@ fn encode_groups(alphabet: &Alphabet, bytes: &[u8], out: &mut [u8])
 {
     let (groups, _) = bytes.as_chunks::<3>();
     for (i, [x, y, z]) in groups.iter().enumerate() {
-        let text = encode_group(alphabet, *x, *y, *z);
-        out[i * 4..i * 4 + 4].copy_from_slice(&text);
+        let [a, b, c, d] = encode_group(alphabet, *x, *y, *z);
+        // One by one: copied as an array, the four are put together first, a tenth more instructions for long texts.
+        let to = i * 4;
+        out[to] = a;
+        out[to + 1] = b;
+        out[to + 2] = c;
+        out[to + 3] = d;
     }
 }
 

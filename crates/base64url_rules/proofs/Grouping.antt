@@ -3,9 +3,10 @@ use Rattle.std.specs.Prelude.{◌≡◌, List, [], ◌++◌, ℕ, zero, suc, ◌
 use Rattle.std.specs.Simd.{first_chunks}
 use Rattle.std.proofs.Math.Nat.{suc-mul, zero-mul}
 use Rattle.std.proofs.Common.{ap, ◌∙◌, arith, take-append-drop, drop-drop, take-add, length-take-le}
+use Rattle.std.proofs.lemmas.List.Edits.{sets}
 use borrow.Rule.Slice.PartMut.{put_mid}
 use Rattle.common.specs.Buffer.{laid}
-use Rattle.common.specs.Laid.{part_from, grown_part, laid_part}
+use Rattle.common.specs.Laid.{part_from, grown, grown_part, laid_part}
 use Rattle.base64url_rules.specs.Base64url.{encode, decode}
 use Rattle.base64url_rules.proofs.GroupLaws.{decode_append, encode_append}
 use Rattle.base64url_rules.proofs.LengthLaws.{length_decode, length_encode, encoded_length_lem}
@@ -43,7 +44,12 @@ module _ {f : List ℕ → List ℕ} {n m : ℕ} (g : Grouping f n m) (s out₀ 
   size : length (f (take a s)) ≡ b
   size = g.size (take a s) (rw front groups) ∙ rw front place
 
-  -- a part more, copied over the j numbers behind
+  -- a part more, stored behind
+  pub part_more : (k end : ℕ) {out vs : List ℕ} → end ≡ a + k → b + length vs ≤ length out₀ → out ≡ laid (f (take a s)) out₀ → f (take k (drop a s)) ≡ vs
+      → sets out b vs ≡ laid (f (take end s)) out₀
+  part_more k end {out} {vs} d room w v = rw (d, take-add a k s) (grown f (take a s) (take k (drop a s)) out₀ b (split _) size out vs w v room)
+
+  -- .. copied over the j numbers behind
   pub part_laid : (k j end : ℕ) {out vs : List ℕ} → end ≡ a + k → j ≡ length vs → out ≡ laid (f (take a s)) out₀ → f (take k (drop a s)) ≡ vs
       → put_mid b j out vs ≡ laid (f (take end s)) out₀
   part_laid k j end {out} {vs} d l w v = rw (d, take-add a k s, split (take k (drop a s)), v, w, l) (laid_part (f (take a s)) out₀ b size vs)
