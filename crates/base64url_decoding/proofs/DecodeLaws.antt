@@ -1,20 +1,36 @@
 -- Decoding two groups more, a group alone, and what follows whole groups.
 use mathlib.Core.Path.{◌≡◌, refl, ap, sym, ◌∙◌}
-use mathlib.Core.Bool.{Bool, true, false, ◌&&◌, false≢true}
-use mathlib.Core.List.{List, [], ◌∷◌}
+use mathlib.Core.Bool.{Bool, true, false, cond, ◌&&◌, false≢true}
+use mathlib.Core.List.{List, [], ◌∷◌, ◌++◌}
 use Prim.Native.Nat.{ℕ, ◌+◌, ◌-◌, ◌*◌, ◌/◌, ◌%◌, ◌≤◌}
 use native.Mathlib.Omega.{arith}
-use lib.ListN.{length, get_or, take, drop, set, take-append-drop}
-use lib.Seq.{sets, take-add, length-take-le}
+use lib.ListN.{length, get_or, take, drop, take-append-drop, length-drop}
+use lib.Seq.{take-add, length-take-le}
 use borrow.Rule.Slice.PartMut.{put_mid}
-use Rattle.common.specs.Laid.{six_stores, laid_stores, part_from}
+use Rattle.std.specs.Prelude.{Some, None}
+use Rattle.common.specs.Buffer.{laid}
+use Rattle.common.specs.Laid.{part_from}
 use Rattle.base64url_rules.specs.Base64url.{decode, alphabetic, unused_bits, strict}
 use Rattle.base64url_rules.proofs.GroupLaws.{strict_append}
-use Rattle.base64url_rules.proofs.Grouping.{decode_grouping, part_more, then_rest}
-use Rattle.base64url_rules.proofs.Listed.{as_entries}
-use Rattle.base64url_rules.proofs.Tables.{entries}
-use Rattle.base64url_words.specs.Words.{Grouped}
+use Rattle.base64url_rules.proofs.Grouping.{decode_grouping, part_laid, then_rest}
+use Rattle.base64url_rules.proofs.LengthLaws.{length_decode}
+use Rattle.base64url_words.specs.Words.{grouped}
 use Rattle.base64url_decoding.specs.Writing.{Decodes}
+
+-- what the answer for whole groups says of them
+pub some_group : (s : List ℕ) {bytes : List ℕ} → Some bytes ≡ grouped s → (strict s ≡ true) × (decode s ≡ bytes)
+some_group s {bytes} e = go (strict s) refl e
+  where
+    go : (t : Bool) → strict s ≡ t → Some bytes ≡ cond t (Some (decode s)) None → (strict s ≡ true) × (decode s ≡ bytes)
+    go true h e = (h, cc)
+    go false h e = cc
+
+pub no_group : (s : List ℕ) → None ≡ grouped s → strict s ≡ false
+no_group s e = go (strict s) refl e
+  where
+    go : (t : Bool) → strict s ≡ t → None ≡ cond t (Some (decode s)) None → strict s ≡ false
+    go true h e = cc
+    go false h e = h
 
 pub not_strict : {s out₀ out : List ℕ} → strict s ≡ false → Decodes s out₀ false out
 not_strict e = record { answer = sym e; bytes = λ t. absurd (false≢true t) }
@@ -34,44 +50,58 @@ module _ (s : List ℕ) (n : ℕ) (groups : n % 4 ≡ 0) (h : n ≤ length s) wh
   pub front_refused : strict (take n s) ≡ false → strict s ≡ false
   front_refused e = rw e at strict_split
 
--- after i pairs of groups comes the next, of k = 8 characters
-module _ (s out₀ out : List ℕ) (i k : ℕ) (hk : k ≡ 8) (hs : i * 8 + 8 ≤ length s) (d : Decodes (take (i * 8) s) out₀ true out) where
+-- after i pairs of groups comes the next
+module _ (s out₀ out : List ℕ) (i : ℕ) (hs : i * 8 + 8 ≤ length s) (d : Decodes (take (i * 8) s) out₀ true out) where
   abbrev next : List ℕ
-  next = take k (drop (i * 8) s)
+  next = take 8 (drop (i * 8) s)
 
-  end : (i + 1) * 8 ≡ i * 8 + k
+  end : (i + 1) * 8 ≡ i * 8 + 8
   end = omega arith
 
   strict_next : strict (take ((i + 1) * 8) s) ≡ strict next
   strict_next =
       let groups : length (take (i * 8) s) % 4 ≡ 0 = omega (arith, length-take-le (i * 8) s (omega arith)) in
-      rw (end, take-add (i * 8) k s) (strict_append (take (i * 8) s) next groups ∙ rw (← d.answer))
+      rw (end, take-add (i * 8) 8 s) (strict_append (take (i * 8) s) next groups ∙ rw (← d.answer))
 
-  pub one_more : {ok : Bool} {x y z u v w : ℕ} → i * 6 + 6 ≤ length out₀ → ok ≡ true → Grouped next ok (x ∷ y ∷ z ∷ u ∷ v ∷ w ∷ [])
-      → Decodes (take ((i + 1) * 8) s) out₀ true (set (set (set (set (set (set out (i * 6) x) (i * 6 + 1) y) (i * 6 + 2) z) (i * 6 + 3) u) (i * 6 + 4) v) (i * 6 + 5) w)
-  one_more {ok} {x} {y} {z} {u} {v} {w} h e g =
+  pub one_more : (j : ℕ) {bytes new : List ℕ} → j ≡ 6 → Some bytes ≡ grouped next → new ≡ bytes
+      → Decodes (take ((i + 1) * 8) s) out₀ true (put_mid (i * 6) j out new)
+  one_more j {bytes} {new} k e f =
+      let g = some_group next e in
+      let eight : length next ≡ 8 = length-take-le 8 (drop (i * 8) s) (rw (length-drop (i * 8) s) (omega arith)) in
+      let six : length new ≡ 6 = omega (arith, ap length f, ap length g.1, length_decode next) in
       record {
-        answer = sym e ∙ g.answer ∙ sym strict_next;
+        answer = sym (strict_next ∙ g.0);
         bytes =
-            λ _. six_stores out (i * 6) x y z u v w
-            ∙ part_more decode_grouping s out₀ (i * 8) (i * 6) (omega arith) (omega arith) (omega arith) k ((i + 1) * 8) end h (d.bytes refl) (g.bytes e);
+            λ _. part_laid decode_grouping s out₀ (i * 8) (i * 6) (omega arith) (omega arith) (omega arith) 8 j ((i + 1) * 8) end (omega arith) (d.bytes refl)
+            (g.1 ∙ sym f);
       }
 
-  pub refused : {ok : Bool} {vs : List ℕ} → ok ≡ false → Grouped next ok vs → Decodes s out₀ false out
-  refused e g = not_strict (front_refused s ((i + 1) * 8) (omega arith) (omega arith) (strict_next ∙ sym g.answer ∙ e))
+  pub refused : None ≡ grouped next → Decodes s out₀ false out
+  refused e = not_strict (front_refused s ((i + 1) * 8) (omega arith) (omega arith) (strict_next ∙ no_group next e))
 
--- one group alone
-module _ (s out : List ℕ) (h : length s ≡ 4) {ok : Bool} {vs : List ℕ} (g : Grouped (entries (λ i. get_or s i 0) 0 4) ok vs) where
-  group_answer : ok ≡ strict s
-  group_answer = g.answer ∙ ap strict (as_entries s 4 h)
+-- a group at the front, number by number
+abbrev pub first_four : List ℕ → List ℕ
+first_four s = get_or s 0 0 ∷ get_or s 1 0 ∷ get_or s 2 0 ∷ get_or s 3 0 ∷ []
 
-  pub group_alone : {new : List ℕ} → length vs ≤ length out → (ok ≡ true → new ≡ sets out 0 vs) → Decodes s out ok new
-  unfolding decode
-  group_alone k stored =
-      record {
-        answer = group_answer;
-        bytes = λ e. let bytes : decode s ≡ vs = ap decode (sym (as_entries s 4 h)) ∙ g.bytes e in stored e ∙ rw bytes (laid_stores [] out 0 refl vs (omega arith));
-      }
+pub group_refused : (s : List ℕ) → 4 ≤ length s → None ≡ grouped (first_four s) → strict s ≡ false
+group_refused [] h e = absurd (omega arith)
+group_refused (a ∷ []) h e = absurd (omega arith)
+group_refused (a ∷ b ∷ []) h e = absurd (omega arith)
+group_refused (a ∷ b ∷ c ∷ []) h e = absurd (omega arith)
+group_refused (a ∷ b ∷ c ∷ d ∷ s) h e = front_refused (a ∷ b ∷ c ∷ d ∷ s) 4 refl (omega arith) (no_group (a ∷ b ∷ c ∷ d ∷ []) e)
+
+pub group_first : (s out : List ℕ) {bytes new : List ℕ} → 4 ≤ length s → Some bytes ≡ grouped (first_four s) → new ≡ bytes
+    → Decodes (take 4 s) out true (new ++ drop 3 out)
+group_first [] out h e f = absurd (omega arith)
+group_first (a ∷ []) out h e f = absurd (omega arith)
+group_first (a ∷ b ∷ []) out h e f = absurd (omega arith)
+group_first (a ∷ b ∷ c ∷ []) out h e f = absurd (omega arith)
+group_first (a ∷ b ∷ c ∷ d ∷ s) out h e f =
+    let g = some_group (a ∷ b ∷ c ∷ d ∷ []) e in
+    record { answer = sym g.0; bytes = λ _. rw (f, ← g.1) (three (a ∷ b ∷ c ∷ d ∷ []) refl) }
+  where
+    three : (t : List ℕ) → length t ≡ 4 → decode t ++ drop 3 out ≡ laid (decode t) out
+    three t h = let n : length (decode t) ≡ 3 = omega (arith, length_decode t) in rw n
 
 -- the first n characters, whole groups, and then the rest
 pub whole : (s out₀ out₁ out₂ : List ℕ) (n m : ℕ) {ok r : Bool} → n % 4 ≡ 0 → n ≤ length s → n / 4 * 3 ≡ m → ok ≡ true

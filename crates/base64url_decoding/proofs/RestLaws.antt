@@ -6,6 +6,7 @@ use Prim.Native.Nat.{ℕ, ◌+◌, ◌*◌, ◌%◌, ◌≤◌}
 use native.Mathlib.Omega.{arith}
 use lib.Dec.{eqb}
 use lib.ListN.{length, get_or, set}
+use Rattle.std.specs.Prelude.{Some, None}
 use Rattle.common.proofs.Decided.{decided, decides_by}
 use Rattle.common.proofs.FirstLaws.{decides_eq}
 use Rattle.common.specs.Laid.{laid_stores}
@@ -14,9 +15,9 @@ use Rattle.base64url_rules.specs.Alphabet.{value, in_alphabet}
 use Rattle.base64url_rules.specs.Base64url.{decode, alphabetic, unused_bits, strict, byte1, byte2, byte3}
 use Rattle.base64url_rules.proofs.Listed.{as_entries}
 use Rattle.base64url_rules.proofs.Tables.{entries}
-use Rattle.base64url_words.specs.Words.{Grouped}
+use Rattle.base64url_words.specs.Words.{grouped}
 use Rattle.base64url_decoding.specs.Writing.{Decodes}
-use Rattle.base64url_decoding.proofs.DecodeLaws.{not_strict}
+use Rattle.base64url_decoding.proofs.DecodeLaws.{some_group, no_group, not_strict}
 
 -- a text of n characters, by these one by one
 pub as_listed : (s : List ℕ) (n : ℕ) {out₀ out : List ℕ} {ok : Bool} → length s ≡ n → Decodes (entries (λ i. get_or s i 0) 0 n) out₀ ok out → Decodes s out₀ ok out
@@ -24,10 +25,6 @@ as_listed s n {out₀} {out} {ok} h d = subst (λ (l : List ℕ). Decodes l out�
 
 zero_test : (n m : ℕ) → (n ≡ 0 → m ≡ 0) → (m ≡ 0 → n ≡ 0) → eqb n 0 ≡ eqb m 0
 zero_test n m f g = decided (decides_by (decides_eq n 0) f g) (decides_eq m 0)
-
-when : (ok : Bool) (n m : ℕ) → (ok ≡ true → n ≡ m) → ok && eqb n 0 ≡ ok && eqb m 0
-when true n m f = rw (f refl)
-when false n m f = refl
 
 value_A : value 65 ≡ 0
 unfolding within value
@@ -53,32 +50,25 @@ unfolding strict
 alone a out = not_strict (and-false (alphabetic (a ∷ [])))
 
 -- two characters, by what their group says
-module _ (a b x y z : ℕ) (ok : Bool) (out : List ℕ) (g : Grouped (a ∷ b ∷ 65 ∷ 65 ∷ []) ok (x ∷ y ∷ z ∷ [])) where
-  two_judged : strict (a ∷ b ∷ []) ≡ ok && eqb y 0
-  unfolding decode
-  two_judged = two_test a b ∙ rw (← g.answer) (when ok (byte2 b 65) y (λ e. cc (g.bytes e)))
+module _ (a b : ℕ) (out : List ℕ) where
+  pub two_bad : None ≡ grouped (a ∷ b ∷ 65 ∷ 65 ∷ []) → Decodes (a ∷ b ∷ []) out false out
+  two_bad e = not_strict (two_test a b ∙ rw (no_group _ e))
 
-  pub two_bad : ok && eqb y 0 ≡ false → Decodes (a ∷ b ∷ []) out false out
-  two_bad e = not_strict (two_judged ∙ e)
-
-  pub two_good : 1 ≤ length out → ok ≡ true → eqb y 0 ≡ true → Decodes (a ∷ b ∷ []) out true (set out 0 x)
+  pub two_judged : {bytes : List ℕ} → Some bytes ≡ grouped (a ∷ b ∷ 65 ∷ 65 ∷ []) → 1 ≤ length out
+      → Decodes (a ∷ b ∷ []) out (eqb (get_or bytes 1 0) 0) (set out 0 (get_or bytes 0 0))
   unfolding decode
-  two_good h e f =
-      let byte : byte1 a b ≡ x = cc (g.bytes e) in
-      record { answer = sym (two_judged ∙ rw (e, f)); bytes = λ _. rw byte (laid_stores [] out 0 refl (x ∷ []) h) }
+  two_judged e h =
+      let g = some_group (a ∷ b ∷ 65 ∷ 65 ∷ []) e in
+      rw (← g.1) (record { answer = sym (two_test a b ∙ rw g.0); bytes = λ _. laid_stores [] out 0 refl (byte1 a b ∷ []) h })
 
 -- three characters
-module _ (a b c x y z : ℕ) (ok : Bool) (out : List ℕ) (g : Grouped (a ∷ b ∷ c ∷ 65 ∷ []) ok (x ∷ y ∷ z ∷ [])) where
-  three_judged : strict (a ∷ b ∷ c ∷ []) ≡ ok && eqb z 0
-  unfolding decode
-  three_judged = three_test a b c ∙ rw (← g.answer) (when ok (byte3 c 65) z (λ e. cc (g.bytes e)))
+module _ (a b c : ℕ) (out : List ℕ) where
+  pub three_bad : None ≡ grouped (a ∷ b ∷ c ∷ 65 ∷ []) → Decodes (a ∷ b ∷ c ∷ []) out false out
+  three_bad e = not_strict (three_test a b c ∙ rw (no_group _ e))
 
-  pub three_bad : ok && eqb z 0 ≡ false → Decodes (a ∷ b ∷ c ∷ []) out false out
-  three_bad e = not_strict (three_judged ∙ e)
-
-  pub three_good : 2 ≤ length out → ok ≡ true → eqb z 0 ≡ true → Decodes (a ∷ b ∷ c ∷ []) out true (set (set out 0 x) 1 y)
+  pub three_judged : {bytes : List ℕ} → Some bytes ≡ grouped (a ∷ b ∷ c ∷ 65 ∷ []) → 2 ≤ length out
+      → Decodes (a ∷ b ∷ c ∷ []) out (eqb (get_or bytes 2 0) 0) (set (set out 0 (get_or bytes 0 0)) 1 (get_or bytes 1 0))
   unfolding decode
-  three_good h e f =
-      let first : byte1 a b ≡ x = cc (g.bytes e) in
-      let second : byte2 b c ≡ y = cc (g.bytes e) in
-      record { answer = sym (three_judged ∙ rw (e, f)); bytes = λ _. rw (first, second) (laid_stores [] out 0 refl (x ∷ y ∷ []) h) }
+  three_judged e h =
+      let g = some_group (a ∷ b ∷ c ∷ 65 ∷ []) e in
+      rw (← g.1) (record { answer = sym (three_test a b c ∙ rw g.0); bytes = λ _. laid_stores [] out 0 refl (byte1 a b ∷ byte2 b c ∷ []) h })

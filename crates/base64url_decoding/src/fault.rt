@@ -1,58 +1,45 @@
 // Why a text is refused. It goes over the characters one by one: only a refusal pays for it.
-ghost use Rattle.std.specs.Prelude.{◌≡◌};
+ghost use Rattle.std.specs.Prelude.{◌≡◌, nat_le, position};
+ghost use Rattle.base64url_rules.specs.Alphabet.{value};
 ghost use Rattle.base64url_rules.specs.Base64url.{unused_bits};
-ghost use Rattle.base64url_rules.specs.Fault.{fault, first_outside};
+ghost use Rattle.base64url_rules.specs.Fault.{fault};
 ghost use Rattle.base64url_rules.specs.Outcome.{refusal};
-ghost use Rattle.base64url_rules.proofs.Tables.{values};
+ghost use Rattle.base64url_decoding.specs.Answers.{refused};
 
-use crate::Decoded;
-use base64url_words::value_of;
+use crate::DecodeError;
+use base64url_words::Values;
 
-// The place of the first character outside the alphabet, or the text's length. Rules out _ counted as outside, and the text's end
-// where = stands.
-pub fn first_outside(table: &[i8; 256], text: &[u8]) -> usize
-    requires { table.now ≡ values }
-    ensures { result ≡ first_outside text.now }
+// The place of the first character outside the alphabet. Rules out _ counted as outside, and none found where = stands.
+pub fn first_outside(values: &Values, text: &[u8]) -> Option<usize>
+    ensures { result ≡ position (λ c. nat_le 64 (value c)) text.now }
 {
-    let mut i: usize = 0;
-    while i < text.len() {
-        if value_of(table, text[i]) >= 64 {
-            return i;
-        }
-        i += 1;
-    }
-    i
+    text.iter().position(|c| values.value(*c) >= 64)
 }
 
 // The bits of the last character that belong to no byte.
-fn unused_bits(table: &[i8; 256], text: &[u8]) -> u8
-    requires { table.now ≡ values }
+fn unused_bits(values: &Values, text: &[u8]) -> u8
     ensures { result ≡ unused_bits text.now }
 {
-    let rest = text.len() % 4;
-    if rest < 2 {
-        return 0;
+    let n = text.len();
+    match n % 4 {
+        2 => values.value(text[n - 1]) % 16,
+        3 => values.value(text[n - 1]) % 4,
+        _ => 0,
     }
-    let last = value_of(table, text[text.len() - 1]);
-    if rest == 2 { last % 16 } else { last % 4 }
 }
 
 // The answer to a text that is not decoded: its fault, or that the buffer is too short.
-pub(crate) fn refuse(table: &[i8; 256], text: &[u8]) -> Decoded
-    requires { table.now ≡ values }
-    ensures { result ≡ refusal (fault text.now) }
+pub(crate) fn refuse(values: &Values, text: &[u8]) -> DecodeError
+    ensures { refused result ≡ refusal (fault text.now) }
 {
     let n = text.len();
-    let place = first_outside(table, text);
-    if place < n {
-        return Decoded::Fault(place);
-    }
-    if n % 4 == 1 {
-        return Decoded::Fault(n);
-    }
-    if unused_bits(table, text) == 0 {
-        Decoded::Short
+    if let Some(place) = first_outside(values, text) {
+        DecodeError::Fault(place)
+    } else if n % 4 == 1 {
+        DecodeError::Fault(n)
+    } else if unused_bits(values, text) == 0 {
+        DecodeError::Short
     } else {
-        Decoded::Fault(n - 1)
+        DecodeError::Fault(n - 1)
     }
 }

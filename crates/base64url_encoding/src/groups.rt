@@ -2,73 +2,61 @@
 ghost use Rattle.std.specs.Prelude.{◌≡◌, [], ◌∷◌, ◌<◌, ◌≤◌, ◌%◌, length};
 ghost use Rattle.base64url_rules.specs.Base64url.{encode, encoded_length};
 ghost use Rattle.common.specs.Buffer.{laid};
-ghost use Rattle.base64url_rules.proofs.Tables.{characters};
 
-use crate::characters::character_of;
+use crate::characters::Alphabet;
 
 // The four characters of three bytes.
-#[derive(Clone, Copy)]
-pub(crate) struct Quad {
-    pub(crate) a: u8,
-    pub(crate) b: u8,
-    pub(crate) c: u8,
-    pub(crate) d: u8,
-}
-
-fn encode_group(alphabet: &[u8; 64], x: u8, y: u8, z: u8) -> Quad
-    requires { alphabet.now ≡ characters }
-    ensures { encode (x ∷ y ∷ z ∷ []) ≡ result.a ∷ result.b ∷ result.c ∷ result.d ∷ [] }
+fn encode_group(alphabet: &Alphabet, x: u8, y: u8, z: u8) -> [u8; 4]
+    ensures { result ≡ encode (x ∷ y ∷ z ∷ []) }
 {
-    let a = character_of(alphabet, x / 4);
-    let b = character_of(alphabet, x % 4 * 16 + y / 16);
-    let c = character_of(alphabet, y % 16 * 4 + z / 64);
-    let d = character_of(alphabet, z % 64);
-    Quad { a, b, c, d }
+    [
+        alphabet.character(x / 4),
+        alphabet.character(x % 4 * 16 + y / 16),
+        alphabet.character(y % 16 * 4 + z / 64),
+        alphabet.character(z % 64),
+    ]
 }
 
 // Encodes whole groups of three bytes.
-fn encode_groups(alphabet: &[u8; 64], bytes: &[u8], out: &mut [u8])
-    requires { (alphabet.now ≡ characters) × (length bytes.now % 3 ≡ 0) × (encoded_length (length bytes.now) ≤ length out.old) }
+fn encode_groups(alphabet: &Alphabet, bytes: &[u8], out: &mut [u8])
+    requires { (length bytes.now % 3 ≡ 0) × (encoded_length (length bytes.now) ≤ length out.old) }
     ensures { out.new ≡ laid (encode bytes.now) out.old }
 {
-    let n = bytes.len() / 3;
-    let mut i: usize = 0;
-    while i < n {
-        let from = i * 3;
-        let s = &bytes[from..from + 3];
-        let g = encode_group(alphabet, s[0], s[1], s[2]);
+    let (groups, _) = bytes.as_chunks::<3>();
+    for (i, [x, y, z]) in groups.iter().enumerate() {
+        let [a, b, c, d] = encode_group(alphabet, *x, *y, *z);
+        // One by one: copied as an array, the four are put together first, a tenth more instructions for long texts.
         let to = i * 4;
-        out[to] = g.a;
-        out[to + 1] = g.b;
-        out[to + 2] = g.c;
-        out[to + 3] = g.d;
-        i += 1;
+        out[to] = a;
+        out[to + 1] = b;
+        out[to + 2] = c;
+        out[to + 3] = d;
     }
 }
 
 // Encodes a rest of at most two bytes: filled up with 0 bytes, it has the same characters, and more.
-fn encode_rest(alphabet: &[u8; 64], bytes: &[u8], out: &mut [u8])
-    requires { (alphabet.now ≡ characters) × (length bytes.now < 3) × (encoded_length (length bytes.now) ≤ length out.old) }
+fn encode_rest(alphabet: &Alphabet, bytes: &[u8], out: &mut [u8])
+    requires { (length bytes.now < 3) × (encoded_length (length bytes.now) ≤ length out.old) }
     ensures { out.new ≡ laid (encode bytes.now) out.old }
 {
-    let n = bytes.len();
-    if n == 0 {
-        return;
+    match *bytes {
+        [] => {}
+        [x] => {
+            let [a, b, _, _] = encode_group(alphabet, x, 0, 0);
+            out[0] = a;
+            out[1] = b;
+        }
+        [x, y, ..] => {
+            let [a, b, c, _] = encode_group(alphabet, x, y, 0);
+            out[0] = a;
+            out[1] = b;
+            out[2] = c;
+        }
     }
-    if n == 1 {
-        let g = encode_group(alphabet, bytes[0], 0, 0);
-        out[0] = g.a;
-        out[1] = g.b;
-        return;
-    }
-    let g = encode_group(alphabet, bytes[0], bytes[1], 0);
-    out[0] = g.a;
-    out[1] = g.b;
-    out[2] = g.c;
 }
 
-pub(crate) fn encode_into(alphabet: &[u8; 64], bytes: &[u8], out: &mut [u8])
-    requires { (alphabet.now ≡ characters) × (encoded_length (length bytes.now) ≤ length out.old) }
+pub(crate) fn encode_into(alphabet: &Alphabet, bytes: &[u8], out: &mut [u8])
+    requires { encoded_length (length bytes.now) ≤ length out.old }
     ensures { out.new ≡ laid (encode bytes.now) out.old }
 {
     let n = bytes.len() / 3;

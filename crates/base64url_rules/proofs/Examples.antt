@@ -5,9 +5,7 @@ use Rattle.common.specs.Ranges.{within}
 use Rattle.base64url_rules.specs.Alphabet.{value, character}
 use Rattle.base64url_rules.specs.Base64url.{encode, decode, alphabetic, unused_bits, strict}
 use Rattle.base64url_rules.specs.Fault.{first_outside, fault}
-use Rattle.base64url_rules.specs.Outcome.{decoded_to, decoding, encoded_to, encoding}
-use Rattle.base64url_rules.specs.declared.Decoded.{Decoded}
-use Rattle.base64url_rules.specs.declared.Encoded.{Encoded}
+use Rattle.base64url_rules.specs.Outcome.{Decoded, Encoded, decoded_to, decoding, encoded_to, encoding}
 
 -- 36 46 48 50, and `JC4wMg`, with a character after it or in the place of its last
 abbrev pub bytes : List ℕ

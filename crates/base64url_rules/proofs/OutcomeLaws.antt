@@ -10,9 +10,7 @@ use Rattle.common.specs.Buffer.{laid, cleared}
 use Rattle.base64url_rules.specs.Base64url.{encode, decode, strict}
 use Rattle.base64url_rules.specs.Fault.{fault}
 use Rattle.base64url_rules.proofs.FaultLaws.{strict_faultless}
-use Rattle.base64url_rules.specs.Outcome.{Decoding, Encoding, decoded_to, encoded_to, refusal, judged, decoding, encoding}
-use Rattle.base64url_rules.specs.declared.Decoded.{Decoded}
-use Rattle.base64url_rules.specs.declared.Encoded.{Encoded}
+use Rattle.base64url_rules.specs.Outcome.{Decoded, Encoded, Decoding, Encoding, decoded_to, encoded_to, refusal, judged, decoding, encoding}
 
 -- decoding: a text and a buffer, the answer and the buffer afterwards
 pub data Answered (text out : List ℕ) : Decoded → List ℕ → Type 0 where

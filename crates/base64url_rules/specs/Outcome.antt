@@ -4,8 +4,11 @@ use Rattle.std.proofs.Math.Option.{Option, none, some}
 use Rattle.common.specs.Buffer.{laid, cleared}
 use Rattle.base64url_rules.specs.Base64url.{encode, decode}
 use Rattle.base64url_rules.specs.Fault.{fault}
-use Rattle.base64url_rules.specs.declared.Decoded.{Decoded}
-use Rattle.base64url_rules.specs.declared.Encoded.{Encoded}
+
+-- the answer of decoding: how many bytes were written; the place of the fault in a text that is not strict; or a strict text whose bytes the buffer has no room for
+pub data Decoded : Type 0 where
+  Bytes Fault : ℕ → Decoded
+  Short : Decoded
 
 -- an answer, and what the buffer holds then
 pub record Decoding : Type 0 where
@@ -30,6 +33,11 @@ decoding text out = judged (fault text) (decode text) out
 abbrev pub refusal : Option ℕ → Decoded
 refusal (some place) = Decoded.Fault place
 refusal none = Decoded.Short
+
+-- the answer of encoding: how many characters were written, or a buffer that has no room for them
+pub data Encoded : Type 0 where
+  Text : ℕ → Encoded
+  Short : Encoded
 
 pub record Encoding : Type 0 where
   pub answer : Encoded

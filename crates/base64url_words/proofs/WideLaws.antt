@@ -28,18 +28,19 @@ length_wide : length wide ≡ 512
 unfolding wide
 length_wide = length-append (entries signed 0 256) (entries raised 0 256) ∙ rw (length_entries signed 0 256, length_entries raised 0 256)
 
-pub below_length : (i : ℕ) (l : List ℤ) → l ≡ wide → i < 512 → i < length l
-below_length i l e h = rw (e, length_wide) h
-
-low : (c : ℕ) → c < 256 → get_or wide c (pos 0) ≡ signed c
+pub low : (c : ℕ) → c < 256 → get_or wide c (pos 0) ≡ signed c
 unfolding wide
 low c h = get_or-append (entries signed 0 256) (entries raised 0 256) (pos 0) c (rw (length_entries signed 0 256) h) ∙ entry (pos 0) signed 256 c h
 
-high : (c : ℕ) → c < 256 → get_or wide (256 + c) (pos 0) ≡ raised c
+pub high : (c : ℕ) → c < 256 → get_or wide (256 + c) (pos 0) ≡ raised c
 unfolding wide
 high c h =
     let e : 256 + c ≡ length (entries signed 0 256) + c = ap (λ (n : ℕ). n + c) (sym (length_entries signed 0 256)) in
     ap (λ (n : ℕ). get_or (entries signed 0 256 ++ entries raised 0 256) n (pos 0)) e ∙ get_or-append-add (entries signed 0 256) (entries raised 0 256) c (pos 0) ∙ entry (pos 0) raised 256 c h
+
+-- .. of 32 bits
+pub raised_32 : (c : ℕ) → to_z w32 (bits (raised c)) ≡ raised c
+raised_32 c = ap (to_z w32) (of_z-to_z w32 (shifted c 64) (Fits-wrap w32 _))
 
 -- HOW IT IS FILLED
 
@@ -96,8 +97,8 @@ shift_or x y =
     let e : bit_or (x * 4096) (y * 4096) ≡ bit_or x y * 4096 = rw (add-zero (x * 4096), add-zero (y * 4096), add-zero (bit_or x y * 4096)) at block in
     rw (← e) (or_mod (x * 4096) (y * 4096) 32)
 
-pub wide_word : (l : List ℤ) (a b c d : ℕ) → l ≡ wide → a < 256 → b < 256 → c < 256 → d < 256
-    → bits (to_z w32 (bit_or (bit_or (bit_or (bits (get_or l (256 + a) (pos 0))) (bits (get_or l b (pos 0))) * 4096 % 4294967296) (bits (get_or l (256 + c) (pos 0)))) (bits (get_or l d (pos 0))))) ≡ word a b c d
-wide_word l a b c d e ha hb hc hd =
+pub wide_word : (a b c d : ℕ)
+    → bits (to_z w32 (bit_or (bit_or (bit_or (bits (raised a)) (bits (signed b)) * 4096 % 4294967296) (bits (raised c))) (bits (signed d)))) ≡ word a b c d
+wide_word a b c d =
     let up : (c : ℕ) → bits (raised c) ≡ shifted c 64 = λ c. of_z-to_z w32 (shifted c 64) (Fits-wrap w32 _) in
-    rw (e, high a ha, low b hb, high c hc, low d hd, up a, up c, shift_or (shifted a 64) (bits (signed b)), eighteen a) (of_z-to_z w32 (word a b c d) (word_fits a b c d))
+    rw (up a, up c, shift_or (shifted a 64) (bits (signed b)), eighteen a) (of_z-to_z w32 (word a b c d) (word_fits a b c d))

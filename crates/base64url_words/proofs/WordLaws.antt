@@ -1,7 +1,8 @@
 -- The word of a group: below 2 ^ 31, and so not below 0, exactly when all four characters are of the alphabet; and then its bytes are theirs.
 use mathlib.Core.Path.{◌≡◌, refl, ap, sym, ◌∙◌}
 use mathlib.Core.Logic.{⊎_elim}
-use mathlib.Core.Bool.{Bool, true, false, ◌&&◌, and_assoc, and-true, false≢true}
+use mathlib.Core.Bool.{Bool, true, false, cond, ◌&&◌, and_assoc, and-true, false≢true}
+use Rattle.std.specs.Prelude.{Some, None, option_map}
 use mathlib.Core.List.{List, [], ◌∷◌, ◌++◌}
 use Prim.Native.Nat.{ℕ, ◌+◌, ◌*◌, ◌/◌, ◌%◌, ◌^◌, ◌≤◌, ◌<◌}
 use native.Mathlib.Nat.{mod-eq_of_lt, mul-one}
@@ -21,7 +22,7 @@ use Rattle.base64url_rules.specs.Base64url.{decode, alphabetic, strict, byte1, b
 use Rattle.base64url_rules.proofs.GroupLaws.{strict_groups, strict_append, decode_append}
 use Rattle.base64url_rules.proofs.Listed.{as_entries}
 use Rattle.base64url_rules.proofs.Tables.{entries, signed}
-use Rattle.base64url_words.specs.Words.{bits, shifted, word, bytes3, Grouped, Both}
+use Rattle.base64url_words.specs.Words.{bits, shifted, word, bytes3, grouped, both}
 use Rattle.base64url_words.proofs.SignLaws.{outside_bits, fits_32, sign, not_negative}
 
 -- one test for two numbers
@@ -129,40 +130,54 @@ module _ (a b c d : ℕ) where
         let z : byte3 c d ≡ n % 256 = omega (arith, small) in
         rw (word_number, x, y, z)
 
--- a word as it is handed on
-pub handed : (w : ℤ) (a b c d : ℕ) → bits w ≡ word a b c d → bits (to_z w32 (bits w)) ≡ word a b c d
-handed w a b c d e = of_z-to_z w32 (bits w) (rw e (word_fits a b c d)) ∙ e
+-- the bytes of a group by its word, as it is handed on, and of two groups by theirs
+abbrev pub one : ℕ × ℕ → List ℕ
+one w = bytes3 w.0
 
--- a group by its word, and two groups by theirs
-module _ {x : ℤ} {ok : Bool} {m n : ℕ} where
-  pub one_group : (a b c d : ℕ) → bits x ≡ word a b c d → Both x (pos 0) ok m n → Grouped (a ∷ b ∷ c ∷ d ∷ []) ok (bytes3 m)
-  one_group a b c d e w =
-      let answer : ok ≡ strict (a ∷ b ∷ c ∷ d ∷ []) = w.answer ∙ and-true (ltb (bits x) 2147483648) ∙ rw e (word_test a b c d) in
-      record { answer = answer; bytes = λ t. word_bytes a b c d (sym answer ∙ t) ∙ ap bytes3 (sym (w.first t ∙ e)) }
+abbrev pub two : ℕ × ℕ → List ℕ
+two w = bytes3 w.0 ++ bytes3 w.1
 
-  pub two_groups : (a b c d e f g h : ℕ) {y : ℤ} → bits x ≡ word a b c d → bits y ≡ word e f g h → Both x y ok m n
-      → Grouped (a ∷ b ∷ c ∷ d ∷ e ∷ f ∷ g ∷ h ∷ []) ok (bytes3 m ++ bytes3 n)
-  two_groups a b c d e f g h p q w =
-      let s = a ∷ b ∷ c ∷ d ∷ [] in
-      let t = e ∷ f ∷ g ∷ h ∷ [] in
-      let tests : ok ≡ strict s && strict t = w.answer ∙ rw (p, q, word_test a b c d, word_test e f g h) in
-      record {
-        answer = tests ∙ sym (strict_append s t refl);
-        bytes =
-            λ u. let v = Truth.both (strict s) (strict t) (sym tests ∙ u) in
-            decode_append s t refl ∙ rw (word_bytes a b c d v.0, word_bytes e f g h v.1, w.first u ∙ p, w.second u ∙ q);
-      }
+handed : (x : ℤ) (a b c d : ℕ) → bits x ≡ word a b c d → bits (to_z w32 (bits x)) ≡ word a b c d
+handed x a b c d p = of_z-to_z w32 (bits x) (rw p (word_fits a b c d)) ∙ p
+
+pub one_group : (x : ℤ) (a b c d : ℕ) → bits x ≡ word a b c d → option_map one (both (to_z w32 (bits x)) (pos 0)) ≡ grouped (a ∷ b ∷ c ∷ d ∷ [])
+one_group x a b c d p =
+    let s = a ∷ b ∷ c ∷ d ∷ [] in
+    rw (handed x a b c d p, and-true (ltb (word a b c d) 2147483648), word_test a b c d) (go (strict s) refl)
+  where
+    go : (t : Bool) → strict (a ∷ b ∷ c ∷ d ∷ []) ≡ t → option_map one (cond t (Some (word a b c d, 0)) None) ≡ cond t (Some (decode (a ∷ b ∷ c ∷ d ∷ []))) None
+    go true h = ap Some (sym (word_bytes a b c d h))
+    go false h = refl
 
 -- eight characters, by these one by one
-pub as_listed : (s : List ℕ) {ok : Bool} {vs : List ℕ} → length s ≡ 8 → Grouped (entries (λ i. get_or s i 0) 0 8) ok vs → Grouped s ok vs
-as_listed s h g = rw (as_entries s 8 h) at g
+pub two_groups : (x y : ℤ) (s : List ℕ) → length s ≡ 8
+    → bits x ≡ word (get_or s 0 0) (get_or s 1 0) (get_or s 2 0) (get_or s 3 0)
+    → bits y ≡ word (get_or s 4 0) (get_or s 5 0) (get_or s 6 0) (get_or s 7 0)
+    → option_map two (both (to_z w32 (bits x)) (to_z w32 (bits y))) ≡ grouped s
+unfolding entries
+two_groups x y s n p q = go (get_or s 0 0) (get_or s 1 0) (get_or s 2 0) (get_or s 3 0) (get_or s 4 0) (get_or s 5 0) (get_or s 6 0) (get_or s 7 0) p q ∙ ap grouped (as_entries s 8 n)
+  where
+    by_tests : (t u : Bool) (m n : ℕ) {s r : List ℕ} → (t ≡ true → s ≡ bytes3 m) → (u ≡ true → r ≡ bytes3 n)
+        → option_map two (cond (t && u) (Some (m, n)) None) ≡ cond (t && u) (Some (s ++ r)) None
+    by_tests true true m n d e = rw (d refl, e refl)
+    by_tests true false m n d e = refl
+    by_tests false u m n d e = refl
+
+    go : (a b c d e f g h : ℕ) → bits x ≡ word a b c d → bits y ≡ word e f g h
+        → option_map two (both (to_z w32 (bits x)) (to_z w32 (bits y))) ≡ grouped (a ∷ b ∷ c ∷ d ∷ e ∷ f ∷ g ∷ h ∷ [])
+    go a b c d e f g h p q =
+        let s = a ∷ b ∷ c ∷ d ∷ [] in
+        let t = e ∷ f ∷ g ∷ h ∷ [] in
+        rw (handed x a b c d p, handed y e f g h q, word_test a b c d, word_test e f g h, strict_append s t refl, decode_append s t refl)
+        (by_tests (strict s) (strict t) _ _ (word_bytes a b c d) (word_bytes e f g h))
 
 -- the sign of two numbers' bits together tells of both
 module _ (x y : ℤ) where
-  pub both_refused : lt_z (to_z w32 (bit_or (bits x) (bits y))) (pos 0) ≡ true → Both x y false 0 0
+  pub both_refused : lt_z (to_z w32 (bit_or (bits x) (bits y))) (pos 0) ≡ true → None ≡ both x y
   both_refused e =
       let refused = not-true _ (sym (sign (bit_or (bits x) (bits y))) ∙ e) in
-      record { answer = sym refused ∙ or_test 31 (bits x) (bits y); first = λ t. absurd (false≢true t); second = λ t. absurd (false≢true t) }
+      let test : ltb (bits x) 2147483648 && ltb (bits y) 2147483648 ≡ false = sym (or_test 31 (bits x) (bits y)) ∙ refused in
+      rw test
 
   module _ (e : lt_z (to_z w32 (bit_or (bits x) (bits y))) (pos 0) ≡ false) where
     good : ltb (bits x) 2147483648 && ltb (bits y) 2147483648 ≡ true
@@ -174,5 +189,5 @@ module _ (x y : ℤ) where
     pub second_number : to_z w32 (bits y) ≡ pos (bits y)
     second_number = not_negative (bits y) (Truth.both (ltb (bits x) 2147483648) _ good).1
 
-    pub both_taken : Both x y true (nat_abs (to_z w32 (bits x))) (nat_abs (to_z w32 (bits y)))
-    both_taken = record { answer = sym good; first = λ _. rw first_number; second = λ _. rw second_number }
+    pub both_taken : Some (nat_abs (to_z w32 (bits x)), nat_abs (to_z w32 (bits y))) ≡ both x y
+    both_taken = rw (first_number, second_number, good)

@@ -1,5 +1,5 @@
 -- A group of four characters as one number of 32 bits: six bits of each, the first the highest, and below 0 where one is outside the alphabet.
-use Rattle.std.specs.Prelude.{◌≡◌, ◌⊎◌, Bool, true, ◌&&◌, List, [], ◌∷◌, ◌++◌, ℕ, ◌*◌, ◌/◌, ◌%◌, ltb, ℤ, length}
+use Rattle.std.specs.Prelude.{◌&&◌, cond, List, [], ◌∷◌, ◌++◌, ℕ, ◌*◌, ◌/◌, ◌%◌, ltb, ℤ, Option, Some, None}
 use Rattle.std.specs.Int.Bits.{bit_or}
 use Rattle.std.specs.Int.{w32}
 use Rattle.std.proofs.Common.{of_z, to_z}
@@ -28,17 +28,10 @@ raised c = to_z w32 (shifted c 64)
 unfoldable pub wide : List ℤ
 wide = entries signed 0 256 ++ entries raised 0 256
 
--- .. or none
-abbrev pub WideIfAny : List ℤ → Type 0
-WideIfAny l = (length l ≡ 0) ⊎ (l ≡ wide)
+-- the bytes of whole groups of characters, if all are of the alphabet
+abbrev pub grouped : List ℕ → Option (List ℕ)
+grouped group = cond (strict group) (Some (decode group)) None
 
--- whole groups of characters, whether all are of the alphabet, and if so their bytes
-pub record Grouped (group : List ℕ) (ok : Bool) (out : List ℕ) : Type 0 where
-  pub answer : ok ≡ strict group
-  pub bytes : ok ≡ true → decode group ≡ out
-
--- two numbers, whether neither is below 0, and if so their bits
-pub record Both (x y : ℤ) (ok : Bool) (m n : ℕ) : Type 0 where
-  pub answer : ok ≡ ltb (bits x) 2147483648 && ltb (bits y) 2147483648
-  pub first : ok ≡ true → m ≡ bits x
-  pub second : ok ≡ true → n ≡ bits y
+-- the bits of two numbers, if neither is below 0
+abbrev pub both : ℤ → ℤ → Option (ℕ × ℕ)
+both x y = cond (ltb (bits x) 2147483648 && ltb (bits y) 2147483648) (Some (bits x, bits y)) None

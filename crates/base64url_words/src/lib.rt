@@ -4,9 +4,9 @@
 mod values; // values.rt: the values of the characters
 mod words; // words.rt: four characters as one number
 mod wide; // wide.rt: the table for long texts
-mod groups; // groups.rt: one group to its bytes, two to their words
+mod groups; // groups.rt: one group to its bytes, two to theirs
 
-pub use groups::{Group, decode_group, words_of};
-pub use values::{table, value_of};
-pub use wide::widened;
-pub use words::Words;
+pub use groups::{group, two_groups};
+pub use values::Values;
+pub use wide::Wide;
+pub use words::Table;

@@ -1,7 +1,7 @@
-// The table of values. A constant array is copied wherever it is named, so it is copied once, by a call, and lent from then on.
-ghost use Rattle.std.specs.Prelude.{◌≡◌};
+// The table of values. A constant array is copied wherever it is named, so it is copied once, into a `Values`, and lent from then on.
 ghost use Rattle.base64url_rules.specs.Alphabet.{value};
 ghost use Rattle.base64url_rules.proofs.Tables.{signed, values};
+ghost use Rattle.std.specs.Prelude.{◌≡◌};
 
 // Outside the alphabet -1 and -2 stand in turn: a run of one number would be written in pieces that overlap, and take longer than rows of
 // sixteen.
@@ -103,27 +103,31 @@ const VALUES: [i8; 256] = [
     -1, -2, -1, -2, -1, -2, -1, -2, -1, -2, -1, -2, -1, -2, -1, -2,
 ];
 
-// The value of every character, and a number below 0 outside the alphabet. Rules out a table that lets = in, and one that has the values of + and / for
-// those of - and _.
-pub fn table() -> [i8; 256]
-    ensures { result ≡ values }
-{
-    VALUES
+// The value of every character, and a number below 0 outside the alphabet.
+#[derive(Drop)]
+pub struct Values {
+    entries: [i8; 256],
+    ghost right: { entries ≡ values },
 }
 
-// The value of a character, and a number below 0 outside the alphabet: shifted to any place of a word, it leaves the word below 0.
-pub(crate) fn signed_value(table: &[i8; 256], c: u8) -> i32
-    requires { table.now ≡ values }
-    ensures { result ≡ signed c }
-{
-    table[c as usize] as i32
-}
+impl Values {
+    // Rules out a table that lets = in, and one that has the values of + and / for those of - and _.
+    pub fn new() -> Self {
+        Values { entries: VALUES }
+    }
 
-// The value of a character, 64 outside the alphabet. Rules out that it is 63 there, as that of _.
-pub fn value_of(table: &[i8; 256], c: u8) -> u8
-    requires { table.now ≡ values }
-    ensures { result ≡ value c }
-{
-    let v = signed_value(table, c);
-    if v < 0 { 64 } else { v as u8 }
+    // The value of a character, and a number below 0 outside the alphabet: shifted to any place of a word, it leaves the word below 0.
+    pub(crate) fn signed(&self, c: u8) -> i32
+        ensures { result ≡ signed c }
+    {
+        i32::from(self.entries[usize::from(c)])
+    }
+
+    // The value of a character, 64 outside the alphabet. Rules out that it is 63 there, as that of _, and the value of its neighbour.
+    pub fn value(&self, c: u8) -> u8
+        ensures { result ≡ value c }
+    {
+        let value = self.signed(c);
+        if value < 0 { 64 } else { value as u8 }
+    }
 }

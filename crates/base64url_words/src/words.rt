@@ -1,43 +1,28 @@
 // Four characters as one number: six bits of each, the first the highest. Where a character is outside the alphabet, the number is below 0.
 ghost use Rattle.std.specs.Prelude.{◌≡◌};
-ghost use Rattle.base64url_rules.proofs.Tables.{values};
-ghost use Rattle.base64url_words.specs.Words.{bits, word, Both};
+ghost use Rattle.base64url_words.specs.Words.{bits, word, both};
 
-use crate::values::signed_value;
+use crate::values::Values;
 
-pub(crate) fn word_of(table: &[i8; 256], a: u8, b: u8, c: u8, d: u8) -> i32
-    requires { table.now ≡ values }
-    ensures { bits result ≡ word a b c d }
-{
-    let va = signed_value(table, a);
-    let vb = signed_value(table, b);
-    let vc = signed_value(table, c);
-    let vd = signed_value(table, d);
-    va << 18 | vb << 12 | vc << 6 | vd
+// A table that four characters are looked up in. Rules out a character at another's place, and a word that is not below 0 where one is outside the alphabet.
+pub trait Table {
+    fn word(&self, a: u8, b: u8, c: u8, d: u8) -> i32
+        ensures { bits result ≡ word a b c d };
 }
 
-// Two numbers, if neither is below 0.
-#[derive(Clone, Copy)]
-pub struct Words {
-    pub ok: bool,
-    pub x: u32,
-    pub y: u32,
+impl Table for Values {
+    fn word(&self, a: u8, b: u8, c: u8, d: u8) -> i32 {
+        self.signed(a) << 18 | self.signed(b) << 12 | self.signed(c) << 6 | self.signed(d)
+    }
 }
 
-// One test of the sign serves both.
-pub(crate) fn both(x: i32, y: i32) -> Words
-    ensures { Both x y result.ok result.x result.y }
+// Two numbers, if neither is below 0. One test of the sign serves both.
+pub(crate) fn both(x: i32, y: i32) -> Option<(u32, u32)>
+    ensures { result ≡ both x y }
 {
     if (x | y) < 0 {
-        return Words {
-            ok: false,
-            x: 0,
-            y: 0,
-        };
-    }
-    Words {
-        ok: true,
-        x: x as u32,
-        y: y as u32,
+        None
+    } else {
+        Some((x as u32, y as u32))
     }
 }

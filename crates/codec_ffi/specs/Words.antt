@@ -1,8 +1,6 @@
 -- The answers of decoding and encoding as two words, and the lent buffer.
 use Rattle.std.specs.Prelude.{List, [], ◌∷◌, ℕ}
-use Rattle.base64url_rules.specs.declared.Decoded.{Decoded}
-use Rattle.base64url_rules.specs.declared.Encoded.{Encoded}
-use Rattle.base64url_rules.specs.Outcome.{Decoding, Encoding}
+use Rattle.base64url_rules.specs.Outcome.{Decoded, Encoded, Decoding, Encoding}
 
 -- 0 and how many bytes were written, 1 and the place of the fault, 2 and 0 for a buffer that is too short
 abbrev pub decoded_words : Decoded → List ℕ

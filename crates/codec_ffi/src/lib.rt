@@ -3,29 +3,31 @@
 
 ghost use Rattle.std.specs.Prelude.{◌≡◌};
 ghost use Rattle.base64url_rules.specs.Outcome.{decoding, encoding};
+ghost use Rattle.base64url_decoding.specs.Answers.{decoded};
+ghost use Rattle.base64url_encoding.specs.Answers.{encoded};
 ghost use Rattle.sha2_rules.specs.Hash.{SHA256};
 ghost use Rattle.hmac.specs.Hmac.{HMACSHA256};
 ghost use Rattle.codec_ffi.specs.Words.{decoded_words, encoded_words, call, decode_call, encode_call};
 
-use base64url_decoding::Decoded;
-use base64url_encoding::Encoded;
+use base64url_decoding::{DecodeError, decode};
+use base64url_encoding::encode;
 
-fn decoded_words(d: Decoded) -> [u64; 2]
-    ensures { result ≡ decoded_words d }
+fn decoded_words(answer: Result<usize, DecodeError>) -> [u64; 2]
+    ensures { result ≡ decoded_words (decoded answer) }
 {
-    match d {
-        Decoded::Bytes(n) => [0, n as u64],
-        Decoded::Fault(place) => [1, place as u64],
-        Decoded::Short => [2, 0],
+    match answer {
+        Ok(n) => [0, n as u64],
+        Err(DecodeError::Fault(place)) => [1, place as u64],
+        Err(DecodeError::Short) => [2, 0],
     }
 }
 
-fn encoded_words(e: Encoded) -> [u64; 2]
-    ensures { result ≡ encoded_words e }
+fn encoded_words(answer: Option<usize>) -> [u64; 2]
+    ensures { result ≡ encoded_words (encoded answer) }
 {
-    match e {
-        Encoded::Text(n) => [0, n as u64],
-        Encoded::Short => [2, 0],
+    match answer {
+        Some(n) => [0, n as u64],
+        None => [2, 0],
     }
 }
 
@@ -35,8 +37,7 @@ fn encoded_words(e: Encoded) -> [u64; 2]
 pub extern "C" fn codec_decode(text: &[u8], out: &mut [u8], answer: &mut [u64; 2])
     ensures { call answer.new out.new ≡ decode_call (decoding text.now out.old) }
 {
-    let d = base64url_decoding::decode(text, out);
-    *answer = decoded_words(d);
+    *answer = decoded_words(decode(text, out));
 }
 
 // Encodes bytes. The answer: 0 and how many characters were written, 2 and 0 for a buffer that is too short.
@@ -45,8 +46,7 @@ pub extern "C" fn codec_decode(text: &[u8], out: &mut [u8], answer: &mut [u64; 2
 pub extern "C" fn codec_encode(bytes: &[u8], out: &mut [u8], answer: &mut [u64; 2])
     ensures { call answer.new out.new ≡ encode_call (encoding bytes.now out.old) }
 {
-    let e = base64url_encoding::encode(bytes, out);
-    *answer = encoded_words(e);
+    *answer = encoded_words(encode(bytes, out));
 }
 
 // Rules out the digest of no bytes, and a MAC in its place.

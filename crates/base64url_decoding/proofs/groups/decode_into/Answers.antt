@@ -1,10 +1,24 @@
--- `decode_into` meets its contract, with the table for long texts and without.
-use mathlib.Core.Logic.{inl, inr}
-use mathlib.Core.Path.{refl}
+-- `decode_into` meets its contract: the pairs, and then the rest in the part behind their bytes.
+use mathlib.Core.Path.{sym, ◌∙◌}
+use Prim.Native.Nat.{◌*◌, ◌/◌}
+use native.Mathlib.Omega.{arith}
+use lib.ListN.{length}
+use lib.Seq.{length-take-le}
+use Rattle.base64url_decoding.proofs.DecodeLaws.{not_strict, front_refused, whole}
 use Rattle.base64url_decoding.proofs.groups.decode_into.Goals as goal
 
-pub decode_all-requires : goal.decode_all-requires
-decode_all-requires c = (c.requires.0, inl refl, c.requires.1)
+pub slice_bounds-decode_front-end : goal.slice_bounds-decode_front-end
+slice_bounds-decode_front-end c = sym (length-take-le (length c.args.text.now / 8 * 8) c.args.text.now (omega arith))
 
-pub decode_all-requires-2 : goal.decode_all-requires-2
-decode_all-requires-2 c = (c.requires.0, inr c.widened-long.ensures, c.requires.1)
+pub decode_front-requires : goal.decode_front-requires
+decode_front-requires c =
+    let n = length-take-le (length c.args.text.now / 8 * 8) c.args.text.now (omega arith) in
+    (omega (arith, n), omega (arith, n))
+
+pub returns-then-decode_front : goal.returns-then-decode_front
+returns-then-decode_front c =
+    whole c.args.text.now c.args.out.now c.decode_front.new.out c.decode_last.new.out (length c.args.text.now / 8 * 8) (length c.args.text.now / 8 * 6) (omega arith) (omega arith) (omega arith) c.if-decode_front.true c.decode_front.ensures c.decode_last.ensures
+
+pub returns-else-decode_front : goal.returns-else-decode_front
+returns-else-decode_front c =
+    rw c.if-decode_front.false (not_strict (front_refused c.args.text.now (length c.args.text.now / 8 * 8) (omega arith) (omega arith) (sym c.decode_front.ensures.answer ∙ c.if-decode_front.false)))

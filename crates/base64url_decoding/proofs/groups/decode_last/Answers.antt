@@ -1,22 +1,13 @@
 -- `decode_last` meets its contract: a group if there is one, and then the rest in the part behind its bytes.
 use mathlib.Core.Path.{refl, sym, ◌∙◌}
 use native.Mathlib.Omega.{arith}
-use lib.Seq.{length-take-le}
-use borrow.Author.Tests.{not-true, not-false}
-use Rattle.base64url_decoding.proofs.DecodeLaws.{not_strict, front_refused, whole}
+use Rattle.base64url_decoding.proofs.DecodeLaws.{not_strict, group_refused, group_first, whole}
 use Rattle.base64url_decoding.proofs.groups.decode_last.Goals as goal
 
-pub slice_bounds-decode_four-end : goal.slice_bounds-decode_four-end
-slice_bounds-decode_four-end c = sym (length-take-le 4 c.args.text.now (omega arith))
-
-pub decode_four-requires : goal.decode_four-requires
-decode_four-requires c =
-    (c.requires.0, length-take-le 4 c.args.text.now (omega arith), omega arith)
-
-pub returns-then-not-decode_four : goal.returns-then-not-decode_four
-returns-then-not-decode_four c =
-    not_strict (front_refused c.args.text.now 4 refl (omega arith) (sym c.decode_four.ensures.answer ∙ not-true _ c.if-not-decode_four.true-raw))
+pub returns-in_default-group : goal.returns-in_default-group
+returns-in_default-group c = not_strict (group_refused c.args.text.now (omega arith) (sym c.in_default-group.is ∙ c.group.ensures))
 
 pub returns : goal.returns
 returns c =
-    whole c.args.text.now c.args.out.now c.decode_four.new.out c.decode_rest-2.new.out 4 3 refl (omega arith) refl (not-false _ c.if-not-decode_four.false-raw) c.decode_four.ensures c.decode_rest-2.ensures
+    let d = group_first c.args.text.now c.args.out.now (omega arith) (sym c.in-Some.is ∙ c.group.ensures) c.copy_from_slice.ensures.after in
+    whole c.args.text.now c.args.out.now _ c.decode_rest-2.new.out 4 3 refl (omega arith) refl refl d c.decode_rest-2.ensures

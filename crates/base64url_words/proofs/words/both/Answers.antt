@@ -7,13 +7,13 @@ use Rattle.base64url_words.proofs.WordLaws.{both_refused, first_number, second_n
 use Rattle.base64url_words.proofs.words.both.Goals as goal
 
 pub returns-then-x-y-lt0 : goal.returns-then-x-y-lt0
-returns-then-x-y-lt0 c = both_refused _ _ c.if-x-y-lt0.true
+returns-then-x-y-lt0 c = both_refused c.args.x c.args.y c.if-x-y-lt0.true
 
 pub overflow_cast-result : goal.overflow_cast-result
 overflow_cast-result c = rw (first_number c.args.x c.args.y c.if-x-y-lt0.false) (tt, of_z_fits w32 c.args.x (search rules))
 
-pub overflow_cast-result-2 : goal.overflow_cast-result-2
-overflow_cast-result-2 c = rw (second_number c.args.x c.args.y c.if-x-y-lt0.false) (tt, of_z_fits w32 c.args.y (search rules))
+pub overflow_cast-result-else-x-y-lt0 : goal.overflow_cast-result-else-x-y-lt0
+overflow_cast-result-else-x-y-lt0 c = rw (second_number c.args.x c.args.y c.if-x-y-lt0.false) (tt, of_z_fits w32 c.args.y (search rules))
 
-pub returns : goal.returns
-returns c = both_taken _ _ c.if-x-y-lt0.false
+pub returns-else-x-y-lt0 : goal.returns-else-x-y-lt0
+returns-else-x-y-lt0 c = both_taken c.args.x c.args.y c.if-x-y-lt0.false

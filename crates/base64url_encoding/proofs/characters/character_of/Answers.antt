@@ -1,9 +1,0 @@
--- An entry of the alphabet is the character of its place.
-use borrow.Author.Rules.{rules}
-use Rattle.base64url_rules.specs.Alphabet.{character}
-use Rattle.base64url_rules.proofs.Tables.{characters, entry}
-use Rattle.base64url_encoding.proofs.characters.character_of.Goals as goal
-
-pub returns : goal.returns
-unfolding characters
-returns c = rw c.requires.0 (entry 0 character 64 c.args.v (search rules))
