@@ -1,75 +1,52 @@
 // An integer's decimal text, read into i64: exact at both ends and at -0.
 #![tactic(auto)]
 
-ghost use Rattle.std.specs.Prelude.{◌≡◌, ◌-◌, ◌≤◌, neg_ℤ, pos};
+ghost use Rattle.std.specs.Prelude.{◌≡◌, ◌≤◌, neg_ℤ, pos};
 ghost use Rattle.decimal_rules.specs.Integer.{integer_of};
-ghost use Rattle.decimal.specs.Magnitude.{magnitude_of};
-
-pub use decimal_rules::Integer;
-
-// The value of digits that is not too great.
-#[derive(Clone, Copy)]
-enum Magnitude {
-    Of(u64),
-    Beyond,
-}
+ghost use Rattle.decimal.specs.Magnitude.{digit_of, magnitude_of};
 
 // The integer that a text writes in decimal, where i64 holds it. Any length of text is answered.
 // Rules out that 9223372036854775808 wraps round to the least number, and that `-0` or the least number is refused.
-pub fn parse(text: &[u8]) -> Integer
+pub fn parse(text: &[u8]) -> Option<i64>
     ensures { result ≡ integer_of text.now }
 {
-    if text.len() == 0 {
-        return Integer::No;
-    }
-    if text[0] == b'-' {
-        let rest = &text[1..];
-        match unsigned(rest, 9_223_372_036_854_775_808) {
-            Magnitude::Of(m) => Integer::Is(negated(m)),
-            Magnitude::Beyond => Integer::No,
-        }
+    if let [b'-', rest @ ..] = text {
+        let m = unsigned(rest, 9_223_372_036_854_775_808)?;
+        Some(negated(m))
     } else {
-        match unsigned(text, 9_223_372_036_854_775_807) {
-            Magnitude::Of(m) => Integer::Is(m as i64),
-            Magnitude::Beyond => Integer::No,
-        }
+        let m = unsigned(text, 9_223_372_036_854_775_807)?;
+        Some(m as i64)
     }
 }
 
 // The value of one or more digits and nothing else, where it is at most `most`.
-fn unsigned(text: &[u8], most: u64) -> Magnitude
+fn unsigned(text: &[u8], most: u64) -> Option<u64>
     requires { 9 ≤ most }
     ensures { result ≡ magnitude_of most text.now }
 {
-    if text.len() == 0 {
-        return Magnitude::Beyond;
+    if text.is_empty() {
+        return None;
     }
     let mut m: u64 = 0;
-    let mut i: usize = 0;
-    while i < text.len() {
-        let c = text[i];
-        if c < b'0' {
-            return Magnitude::Beyond;
-        }
-        if b'9' < c {
-            return Magnitude::Beyond;
-        }
-        let d = digit(c);
+    for c in text {
+        let d = digit(*c)?;
         if (most - d) / 10 < m {
-            return Magnitude::Beyond;
+            return None;
         }
         m = 10 * m + d;
-        i += 1;
     }
-    Magnitude::Of(m)
+    Some(m)
 }
 
 // The value of a digit.
-fn digit(c: u8) -> u64
-    requires { (48 ≤ c) × (c ≤ 57) }
-    ensures { result ≡ c - 48 }
+#[tactic(auto, using(common::specs::RangeLaws::within_is, common::specs::RangeLaws::below, common::specs::RangeLaws::above), unfolding(crate::specs::Magnitude::digit_of, common::specs::Ranges::is_digit))]
+fn digit(c: u8) -> Option<u64>
+    ensures { result ≡ digit_of c }
 {
-    (c - b'0') as u64
+    match c {
+        b'0'..=b'9' => Some(u64::from(c - b'0')),
+        _ => None,
+    }
 }
 
 // -m, also for the m that i64 itself does not hold.

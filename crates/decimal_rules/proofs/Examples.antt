@@ -1,16 +1,15 @@
 -- The definition, run on texts at both ends, one beyond each, at -0, and on texts that are no integer's.
-use Rattle.std.specs.Prelude.{◌≡◌, refl, ℤ, pos, neg_ℤ}
+use Rattle.std.specs.Prelude.{◌≡◌, refl, ℤ, pos, neg_ℤ, Some, None}
 use Prim.Native.String.{String}
 use Rattle.common.specs.Ascii.{ascii}
 use Rattle.common.specs.Ranges.{within, is_digit}
-use Rattle.decimal_rules.specs.declared.Integer.TheVariants.{Is, No}
 use Rattle.decimal_rules.specs.Integer.{integer_of, all_digits, after}
 
 abbrev pub Reads : String → ℤ → Type 0
-Reads s z = integer_of (ascii s) ≡ Is z
+Reads s z = integer_of (ascii s) ≡ Some z
 
 abbrev pub Refused : String → Type 0
-Refused s = integer_of (ascii s) ≡ No
+Refused s = integer_of (ascii s) ≡ None
 
 pub examples :
     Reads "0" (pos 0)

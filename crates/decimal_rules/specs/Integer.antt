@@ -1,9 +1,7 @@
 -- An integer's decimal text: "a number from -2^63 to 2^63 - 1, spelled without `.`, `e` or `E`". "`-0` is zero."
-use Rattle.std.specs.Prelude.{Bool, true, false, cond, ◌&&◌, List, [], ◌∷◌, ℕ, ◌+◌, ◌*◌, ◌-◌, eqb, ℤ, pos, neg_ℤ}
+use Rattle.std.specs.Prelude.{Bool, true, false, cond, ◌&&◌, List, [], ◌∷◌, ℕ, ◌+◌, ◌*◌, ◌-◌, eqb, ℤ, pos, neg_ℤ, Option, Some, None}
 use Rattle.std.specs.Int.Signed.{le_z}
 use Rattle.common.specs.Ranges.{is_digit}
-use Rattle.decimal_rules.specs.declared.Integer.{Integer}
-use Rattle.decimal_rules.specs.declared.Integer.TheVariants.{Is, No}
 
 unfoldable pub all_digits : List ℕ → Bool
 all_digits [] = true
@@ -39,5 +37,5 @@ abbrev pub in_range : ℤ → Bool
 in_range z = le_z (neg_ℤ (pos 9223372036854775808)) z && le_z z (pos 9223372036854775807)
 
 -- an optional minus sign, digits, and nothing else, whose value is in the range; anything else is none
-unfoldable pub integer_of : List ℕ → Integer
-integer_of s = cond (digits (unsigned s) && in_range (value s)) (Is (value s)) No
+unfoldable pub integer_of : List ℕ → Option ℤ
+integer_of s = cond (digits (unsigned s) && in_range (value s)) (Some (value s)) None

@@ -1,16 +1,13 @@
 -- Rules 12 to 14, by the facts and the keys.
-use mathlib.Core.Path.{◌≡◌, ap, ◌∙◌}
-use mathlib.Core.Bool.{Bool, true, false}
-use mathlib.Core.List.{List}
-use mathlib.Core.Option.{none, some}
-use Prim.Native.Nat.{ℕ}
-use lib.IntN.{ℤ, pos, nat_abs}
+use Rattle.std.specs.Prelude.{◌≡◌, Bool, true, false, List, ℕ}
+use Rattle.std.proofs.Common.{ap, ◌∙◌}
+use Rattle.std.proofs.Math.Option.{none, some}
 use Rattle.common.specs.First.{first}
-use Rattle.common.specs.Options.{or_else}
+use Rattle.common.specs.Options.{given}
 use Rattle.keytable_rules.specs.Key.{Key, key, allows_hs256}
 use Rattle.jose_rules.specs.declared.Facts.{Facts}
-use Rattle.jose_rules.specs.declared.Verdict.{Verdict}
-use Rattle.jose_rules.specs.Facts.{kid_there, chosen_key, format_by, lacking, key_tests, verdict_by}
+use Rattle.jose_rules.specs.Verdict.{Verdict}
+use Rattle.jose_rules.specs.Facts.{is_there, chosen_key, format_by, lacking, key_tests, index_by, number_by, verdict_by}
 use Rattle.jose_judging.specs.Judging.{key_verdict}
 
 module _ (f : Facts) (ks : List Key) where
@@ -23,17 +20,18 @@ module _ (f : Facts) (ks : List Key) where
     unfolding key_verdict
     key_13 a = rw (← e, a)
 
-    module _ (a : allows_hs256 (key ks i) ≡ true) {z : ℤ} (g : format_by f.fmt ≡ some z) where
-      pub key_14 : lacking (key ks i) z ≡ true → Verdict.Refused 14 ≡ key_verdict f ks
+    module _ (a : allows_hs256 (key ks i) ≡ true) where
+      pub key_14 : given (lacking (key ks i)) (format_by f.fmt) ≡ true → Verdict.Refused 14 ≡ key_verdict f ks
       unfolding key_verdict
-      key_14 l = rw (← e, a, g, l)
+      key_14 l = rw (← e, a, l)
 
-      pub key_taken : lacking (key ks i) z ≡ false → {b : Bool} → b ≡ kid_there f.kid → {m : ℕ} → m ≡ nat_abs z → Verdict.Takes i b m ≡ key_verdict f ks
+      pub key_taken : given (lacking (key ks i)) (format_by f.fmt) ≡ false → {b : Bool} → b ≡ is_there f.kid → {m : ℕ} → m ≡ number_by f
+          → Verdict.Takes i b m ≡ key_verdict f ks
       unfolding key_verdict
       key_taken l {b} p {m} q = taken ∙ ap (λ (n : ℕ). verdict_by n f) passes
         where
           passes : 0 ≡ first (key_tests f ks)
-          passes = rw (← e, a, g, l)
+          passes = rw (← e, a, l)
 
-          taken : Verdict.Takes i b m ≡ Verdict.Takes (or_else (chosen_key f.kid) 0) (kid_there f.kid) (nat_abs (or_else (format_by f.fmt) (pos 0)))
-          taken = rw (← e, g, p, q)
+          taken : Verdict.Takes i b m ≡ Verdict.Takes (index_by f) (is_there f.kid) (number_by f)
+          taken = rw (← e, p, q)

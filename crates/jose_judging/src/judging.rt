@@ -1,146 +1,130 @@
 // Rules 9 to 14 by the facts: `facts` of all the members, `unprotected` of those of an unprotected header.
-ghost use Rattle.std.specs.Prelude.{◌≡◌, false, pos};
+ghost use Rattle.std.specs.Prelude.{◌≡◌, false};
+ghost use Rattle.std.proofs.Math.Option.{some};
 ghost use Rattle.common.specs.First.{first};
-ghost use Rattle.common.specs.Options.{or_else};
-ghost use Rattle.keytable_rules.specs.Table.{bad_table, keys};
-ghost use Rattle.jose_rules.specs.Facts.{missing_or_wrong, critical_broken, fmt_wrong, index_of, chosen_key, format_by, known_tests, verdict};
+ghost use Rattle.answers.specs.Numbers.{answer};
+ghost use Rattle.keytable_rules.specs.Table.{keys};
+ghost use Rattle.jose_rules.specs.Verdict.{judged};
+ghost use Rattle.jose_rules.specs.Facts.{missing_or_wrong, critical_broken, lists_badly, is_wrong, index_of, chosen_key, format_by, known_tests, verdict};
 ghost use Rattle.jose_judging.specs.Judging.{KeyWithin, key_verdict, small_of};
 
-use crate::tests::{
-    alg_missing, alg_other, crit_there, crit_wrong, fmt_there, fmt_wrong, kid_there, kid_wrong,
-    lists_badly, text_wrong,
-};
-use answers::{ALG_NOT_ALLOWED, CRITICAL, DONE, FORMAT_NOT_ALLOWED, NO_KEY, WRONG_ALG, WRONG_KIND};
-use jose_rules::{Facts, Fmt, Kid, Verdict};
-use keytable::{Found, allows_format, allows_hs256};
+use answers::Refusal;
+use jose_rules::{Algorithm, Facts, Listed, Said, Taken};
+use keytable::KeyTable;
 
 // The first of rules 9 to 14 that refuses, or what is taken. Rules out that `alg` chooses though the key's bit is 0, that a missing `kid`
 // falls back to a key, that a `fmt` that `crit` doesn't list chooses the format, and that a `crit` in the unprotected header is let
 // through.
-pub fn judge(facts: Facts, unprotected: Facts, table: &[u8]) -> Verdict
-    requires { (bad_table table.now ≡ false) × KeyWithin facts (keys table.now) }
-    ensures { result ≡ verdict facts unprotected (keys table.now) }
+pub fn judge(facts: Facts, unprotected: Facts, table: KeyTable) -> Result<Taken, Refusal>
+    requires { KeyWithin facts (keys table.bytes.now) }
+    ensures { judged result ≡ verdict facts unprotected (keys table.entry.bytes.now) }
 {
-    let n = known_refused(facts, unprotected);
-    if n != DONE {
-        return Verdict::Refused(n);
-    }
+    check_known(facts, unprotected)?;
     judge_key(facts, table)
 }
 
-// Rules 9 to 11: the first that refuses, or 0.
-fn known_refused(facts: Facts, unprotected: Facts) -> u8
-    ensures { result ≡ first (known_tests facts unprotected) }
+// Rules 9 to 11.
+fn check_known(facts: Facts, unprotected: Facts) -> Result<(), Refusal>
+    ensures { answer result ≡ first (known_tests facts unprotected) }
 {
     if missing_or_wrong(facts) {
-        return WRONG_KIND;
+        return Err(Refusal::WrongKind);
     }
     if critical_broken(facts, unprotected) {
-        return CRITICAL;
+        return Err(Refusal::Critical);
     }
-    let alg = facts.alg;
-    if alg_other(alg) {
-        return WRONG_ALG;
+    if matches!(facts.alg, Said::Is(Algorithm::Other)) {
+        return Err(Refusal::WrongAlg);
     }
-    DONE
+    Ok(())
 }
 
 // Rule 9.
+#[tactic(auto, unfolding(jose_rules::specs::Facts::missing_or_wrong))]
 fn missing_or_wrong(facts: Facts) -> bool
     ensures { result ≡ missing_or_wrong facts }
 {
-    let alg = facts.alg;
-    if alg_missing(alg) {
-        return true;
-    }
-    let kid = facts.kid;
-    if kid_wrong(kid) {
-        return true;
-    }
-    let typ = facts.typ;
-    if text_wrong(typ) {
-        return true;
-    }
-    let cty = facts.cty;
-    if text_wrong(cty) {
-        return true;
-    }
-    let crit = facts.crit;
-    if crit_wrong(crit) {
-        return true;
-    }
-    let fmt = facts.fmt;
-    fmt_wrong(fmt)
+    facts.alg.is_missing()
+        || facts.kid.is_wrong()
+        || facts.typ.is_wrong()
+        || facts.cty.is_wrong()
+        || facts.crit.is_wrong()
+        || facts.fmt.is_wrong()
 }
 
 // Rule 10.
+#[tactic(auto, unfolding(jose_rules::specs::Facts::critical_broken))]
 fn critical_broken(facts: Facts, unprotected: Facts) -> bool
     ensures { result ≡ critical_broken facts unprotected }
 {
-    let crit = facts.crit;
-    let fmt = facts.fmt;
-    if lists_badly(crit, fmt_there(fmt)) {
-        return true;
+    lists_badly(facts.crit, facts.fmt.is_there()) || unprotected.crit.is_there()
+}
+
+// Whether `crit` lists badly, or what it lists isn't what is there.
+fn lists_badly(crit: Said<Listed>, there: bool) -> bool
+    ensures { result ≡ lists_badly crit there }
+{
+    match crit {
+        Said::Is(listed) => listed.bad || listed.fmt != there,
+        Said::Absent | Said::Wrong => there,
     }
-    let apart = unprotected.crit;
-    crit_there(apart)
 }
 
 // Rules 12 to 14, where `fmt` is absent or a number.
-fn judge_key(facts: Facts, table: &[u8]) -> Verdict
-    requires { (bad_table table.now ≡ false) × KeyWithin facts (keys table.now) × (fmt_wrong facts.fmt ≡ false) }
-    ensures { result ≡ key_verdict facts (keys table.now) }
+fn judge_key(facts: Facts, table: KeyTable) -> Result<Taken, Refusal>
+    requires { KeyWithin facts (keys table.bytes.now) × (is_wrong facts.fmt ≡ false) }
+    ensures { judged result ≡ key_verdict facts (keys table.entry.bytes.now) }
 {
-    let kid = facts.kid;
-    let fmt = facts.fmt;
-    let Found::At(index) = key_of(kid) else {
-        return Verdict::Refused(NO_KEY);
+    let Some(key_index) = key_of(facts.kid) else {
+        return Err(Refusal::NoKey);
     };
-    if allows_hs256(table, index) {
-        let f = small_format(fmt);
-        if f == 0 {
-            return Verdict::Refused(FORMAT_NOT_ALLOWED);
-        }
-        if allows_format(table, index, f) {
-            return Verdict::Takes(index, kid_there(kid), f);
-        }
-        return Verdict::Refused(FORMAT_NOT_ALLOWED);
+    let key = table.key(key_index);
+    let hs256 = key.allows_hs256();
+    if !hs256 {
+        return Err(Refusal::AlgNotAllowed);
     }
-    Verdict::Refused(ALG_NOT_ALLOWED)
+    let Some(format) = small_format(facts.fmt) else {
+        return Err(Refusal::FormatNotAllowed);
+    };
+    if !key.allows_format(format) {
+        return Err(Refusal::FormatNotAllowed);
+    }
+    Ok(Taken {
+        key_index,
+        kid_present: facts.kid.is_there(),
+        format,
+    })
 }
 
 // The key: the one that `kid` names. A missing `kid` names none.
-fn key_of(kid: Kid) -> Found
+fn key_of(kid: Said<Option<usize>>) -> Option<usize>
     ensures { index_of result ≡ chosen_key kid }
 {
     match kid {
-        Kid::Absent => Found::Nothing,
-        Kid::Wrong => Found::Nothing,
-        Kid::Unknown => Found::Nothing,
-        Kid::Key(index) => Found::At(index),
+        Said::Is(named) => named,
+        Said::Absent | Said::Wrong => None,
     }
 }
 
-// The format, which is 1 where there is no `fmt`; 0 where it isn't from 1 to 8.
-fn small_format(fmt: Fmt) -> u8
-    ensures { result ≡ small_of (or_else (format_by fmt) (pos 0)) }
+// The format, which is 1 where there is no `fmt`; none where it isn't from 1 to 8.
+#[tactic(auto, unfolding(crate::specs::Judging::small_of))]
+fn small_format(fmt: Said<i64>) -> Option<u8>
+    ensures { result ≡ small_of (format_by fmt) }
 {
     match fmt {
-        Fmt::Absent => 1,
-        Fmt::Wrong => 0,
-        Fmt::Is(number) => small(number),
+        Said::Absent => Some(1),
+        Said::Wrong => None,
+        Said::Is(number) => small(number),
     }
 }
 
-// A format from 1 to 8; any other as 0.
-fn small(number: i64) -> u8
-    ensures { result ≡ small_of number }
+// A number from 1 to 8, as a format.
+#[tactic(auto, unfolding(crate::specs::Judging::small_of))]
+fn small(number: i64) -> Option<u8>
+    ensures { result ≡ small_of (some number) }
 {
-    if number < 1 {
-        return 0;
+    match u8::try_from(number) {
+        Ok(format @ 1..=8) => Some(format),
+        _ => None,
     }
-    if 8 < number {
-        return 0;
-    }
-    number as u8
 }

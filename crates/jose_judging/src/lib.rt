@@ -2,7 +2,6 @@
 // answer (RFC 7515 section 4 with the house rules).
 #![tactic(auto)]
 
-mod tests; // tests.rt: what one fact says
 mod judging; // judging.rt: rules 9 to 14 by the facts
 mod union; // union.rt: the facts of two headers together
 

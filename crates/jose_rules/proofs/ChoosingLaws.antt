@@ -14,22 +14,22 @@ use Rattle.json_grammar_rules.specs.Value.{Value, Members, object_v, mnil, mcons
 use Rattle.json_grammar_rules.specs.Twice.{ObjectIn, TwiceNamed}
 use Rattle.json_grammar_rules.proofs.TwiceLaws.{decides_repeated}
 use Rattle.json_characters.specs.Utf8.{utf8}
-use Rattle.keytable_rules.specs.declared.Found.{Found}
-use Rattle.keytable_rules.specs.declared.Found.TheVariants.{At, Nothing}
+use Rattle.std.specs.Prelude.{Option as Perhaps, Some as Known, None}
 use Rattle.keytable_rules.specs.Key.{Key, key, Distinct, Named, find, allows_hs256, allows_format}
 use Rattle.keytable_rules.proofs.KeyLaws.{found, not_found, find_is}
 use Rattle.common.proofs.Decided.{when_false, decided, decides_false, test_false}
 use Rattle.common.specs.Same.{same}
 use Rattle.common.proofs.SameLaws.{decides_same}
 use Rattle.common.specs.Truth.{neither}
-use Rattle.jose_rules.specs.declared.Alg.{Alg}
+use Rattle.jose_rules.specs.declared.Said.{Said}
+use Rattle.jose_rules.specs.declared.Algorithm.{Algorithm}
 use Rattle.jose_rules.specs.declared.Part.{Part}
 use Rattle.jose_rules.specs.Names.{alg, kid, typ, cty, crit, fmt, HS256}
 use Rattle.jose_rules.specs.Members.{Has, Lacks, Meaning, string, strings, integer, Says, Wrong, Some}
 use Rattle.jose_rules.specs.Rules.{Terms, MissingOrWrong, Listed, CriticalBroken, Chosen, ChosenKey, Format, Lacking, choosing, Chooses}
 use Rattle.jose_rules.proofs.OnlyOne.{Only, nothing, just, decides_none, decides_some, decides_absent, only_there, only_is, only_content, only_bind, only_or}
-use Rattle.jose_rules.specs.Facts.{lookup, fact, key_by, found_by, alg_fact, kid_fact, text_fact, crit_fact, fmt_fact, facts_of, alg_missing, alg_other, kid_wrong, kid_there, text_wrong, crit_wrong, crit_there, fmt_wrong, fmt_there, lists_badly, index_of, chosen_key, format_by, lacking, missing_or_wrong, critical_broken, choosing_tests, choice_by}
-use Rattle.jose_rules.proofs.FactLaws.{by_cases, wrong_cases, there_cases, given_cases, bind_cases, by_names, by_algorithm, by_found}
+use Rattle.jose_rules.specs.Facts.{lookup, fact, said, alg_by, found_by, names_by, alg_fact, kid_fact, text_fact, crit_fact, fmt_fact, facts_of, is_missing, is_wrong, is_there, alg_other, lists_badly, index_of, chosen_key, format_by, lacking, missing_or_wrong, critical_broken, choosing_tests, choice_by}
+use Rattle.jose_rules.proofs.FactLaws.{by_cases, wrong_cases, there_cases, given_cases, bind_cases}
 use Rattle.jose_rules.proofs.CriticalLaws.{any_of, empty, lists_badly_lem}
 
 -- MEMBERS BY NAME
@@ -110,9 +110,9 @@ natural (negsuc n) h = absurd (h (record { lt = tt }))
 only_named : (id : List ℕ) (ks : List Key) → Distinct ks → Only (Named id ks) (index_of (find id ks))
 only_named id ks d = go (find id ks) refl
   where
-    go : (f : Found) → find id ks ≡ f → Only (Named id ks) (index_of f)
-    go (At i) e = just (found e) (λ j n. let f = find_is d n in cc)
-    go Nothing e = nothing (not_found e)
+    go : (f : Perhaps ℕ) → find id ks ≡ f → Only (Named id ks) (index_of f)
+    go (Known i) e = just (found e) (λ j n. let f = find_is d n in cc)
+    go None e = nothing (not_found e)
 
 -- the first two of three together
 first_two : {P Q R : Type 0} → (P ⊎ Q) ⊎ R → P ⊎ Q ⊎ R
@@ -125,17 +125,19 @@ joined_two (inl p) = inl (inl p)
 joined_two (inr (inl q)) = inl (inr q)
 joined_two (inr (inr r)) = inr r
 
--- whether `crit` is there
-crit_there_lem : (us : Members) → Decides ((v : Value) × Has crit v us) (crit_there (crit_fact (lookup crit us)))
-unfolding crit_fact
-crit_there_lem us =
-    rw (by_cases strings crit_there {f' = λ _. true} refl refl (by_names (λ c. crit_there c ≡ true) (λ b l. refl)) (lookup crit us), ← there_cases strings (lookup crit us))
-    (decides_has crit us)
+-- whether a member is there, by what is said of it
+decides_there : {A B : Type 0} (n : List ℕ) (ms : Members) (f : A → B) (k : Meaning A) → Decides ((v : Value) × Has n v ms) (is_there (said f k (lookup n ms)))
+decides_there n ms f k = rw (by_cases k is_there {f' = λ _. true} refl refl (λ a. refl) (lookup n ms), ← there_cases k (lookup n ms)) (decides_has n ms)
 
-other : (s : List ℕ) → alg_other (cond (same s HS256) Alg.HS256 Alg.Other) ≡ not (same s HS256)
+-- whether `crit` is there
+crit_there_lem : (us : Members) → Decides ((v : Value) × Has crit v us) (is_there (crit_fact (lookup crit us)))
+unfolding crit_fact
+crit_there_lem us = decides_there crit us names_by strings
+
+other : (s : List ℕ) → alg_other (Said.Is (alg_by s)) ≡ not (same s HS256)
 other s = go (same s HS256)
   where
-    go : (b : Bool) → alg_other (cond b Alg.HS256 Alg.Other) ≡ not b
+    go : (b : Bool) → alg_other (Said.Is (cond b Algorithm.HS256 Algorithm.Other)) ≡ not b
     go true = refl
     go false = refl
 
@@ -148,15 +150,11 @@ some_or (some v) = go (integer v)
     go none = refl
     go (some z) = refl
 
-index_of_lem : (f : Found) → chosen_key (key_by f) ≡ index_of f
-index_of_lem (At i) = refl
-index_of_lem Nothing = refl
-
 -- the chosen key is the one that `kid` names, where it says something
 chosen_named : (ks : List Key) (o : Option Value) → chosen_key (kid_fact ks o) ≡ bind (bind o string) (λ s. index_of (find (utf8 s) ks))
 unfolding kid_fact
 chosen_named ks o =
-    by_cases string chosen_key {a' = none} {w' = none} refl refl (λ s. index_of_lem (find (utf8 s) ks)) o ∙ sym (bind_cases string (λ s. index_of (find (utf8 s) ks)) o)
+    by_cases string chosen_key {a' = none} {w' = none} refl refl (λ s. refl) o ∙ sym (bind_cases string (λ s. index_of (find (utf8 s) ks)) o)
 
 module _ (ms : Members) (unique : repeated (names ms) ≡ false) where
   -- WHAT FACTS SAY of a member
@@ -172,10 +170,10 @@ module _ (ms : Members) (unique : repeated (names ms) ≡ false) where
 
   -- RULE 9
 
-  decides_alg : Decides (Lacks alg ms ⊎ Wrong string alg ms) (alg_missing (alg_fact (lookup alg ms)))
+  decides_alg : Decides (Lacks alg ms ⊎ Wrong string alg ms) (is_missing (alg_fact (lookup alg ms)))
   unfolding alg_fact
   decides_alg =
-      rw (by_cases string alg_missing {a' = true} {w' = true} {f' = λ _. false} refl refl (by_algorithm (λ a. alg_missing a ≡ false) refl refl) (lookup alg ms))
+      rw (by_cases string is_missing {a' = true} {w' = true} {f' = λ _. false} refl refl (λ s. refl) (lookup alg ms))
       (go (lookup alg ms) (decides_lacks alg) (decides_wrong string alg))
     where
       go : (o : Option Value) → Decides (Lacks alg ms) (absent o) → Decides (Wrong string alg ms) (fact false true (λ _. false) string o)
@@ -188,45 +186,33 @@ module _ (ms : Members) (unique : repeated (names ms) ≡ false) where
           here none (holds w) = holds (inr w)
           here (some s) (fails w) = fails (⊎_elim l w)
 
-  decides_kid : (ks : List Key) → Decides (Wrong string kid ms) (kid_wrong (kid_fact ks (lookup kid ms)))
-  unfolding kid_fact
-  decides_kid ks =
-      rw (by_cases string kid_wrong {f' = λ _. false} refl refl (λ s. by_found (λ a. kid_wrong a ≡ false) (λ i. refl) refl (found_by ks s)) (lookup kid ms))
-      (decides_wrong string kid)
-
-  decides_text : (n : List ℕ) → Decides (Wrong string n ms) (text_wrong (text_fact (lookup n ms)))
-  unfolding text_fact
-  decides_text n = rw (by_cases string text_wrong refl refl (λ s. refl) (lookup n ms)) (decides_wrong string n)
-
-  decides_crit : Decides (Wrong strings crit ms) (crit_wrong (crit_fact (lookup crit ms)))
-  unfolding crit_fact
-  decides_crit =
-      rw (by_cases strings crit_wrong {f' = λ _. false} refl refl (by_names (λ c. crit_wrong c ≡ false) (λ b l. refl)) (lookup crit ms)) (decides_wrong strings crit)
-
-  decides_fmt : Decides (Wrong integer fmt ms) (fmt_wrong (fmt_fact (lookup fmt ms)))
-  unfolding fmt_fact
-  decides_fmt = rw (by_cases integer fmt_wrong refl refl (λ z. refl) (lookup fmt ms)) (decides_wrong integer fmt)
+  -- a member of the wrong kind, by what is said of it
+  decides_said : {A B : Type 0} (k : Meaning A) (n : List ℕ) (f : A → B) → Decides (Wrong k n ms) (is_wrong (said f k (lookup n ms)))
+  decides_said k n f = rw (by_cases k is_wrong {f' = λ _. false} refl refl (λ a. refl) (lookup n ms)) (decides_wrong k n)
 
   decides_9 : (ks : List Key) → Decides (MissingOrWrong ms) (missing_or_wrong (facts_of ms ks))
-  unfolding missing_or_wrong facts_of
+  unfolding missing_or_wrong facts_of kid_fact text_fact crit_fact fmt_fact
   decides_9 ks =
       decides_iff first_two joined_two
-      (decides_or decides_alg (decides_or (decides_kid ks) (decides_or (decides_text typ) (decides_or (decides_text cty) (decides_or decides_crit decides_fmt)))))
+      (decides_or decides_alg
+      (decides_or (decides_said string kid (found_by ks))
+      (decides_or (decides_said string typ (λ _. tt {0}))
+      (decides_or (decides_said string cty (λ _. tt {0})) (decides_or (decides_said strings crit names_by) (decides_said integer fmt (λ z. z)))))))
 
   -- RULE 10
 
   decides_listed : (n : List ℕ) → Decides (Listed n ms) (given (λ ns. any_of (λ m. same m n) ns) (bind (lookup crit ms) strings))
   decides_listed n = decides_some (only_said strings crit) (decides_any (λ m. decides_same m n))
 
-  fmt_there_lem : not (absent (lookup fmt ms)) ≡ fmt_there (fmt_fact (lookup fmt ms))
+  fmt_there_lem : not (absent (lookup fmt ms)) ≡ is_there (fmt_fact (lookup fmt ms))
   unfolding fmt_fact
-  fmt_there_lem = there_cases integer (lookup fmt ms) ∙ sym (by_cases integer fmt_there refl refl (λ z. refl) (lookup fmt ms))
+  fmt_there_lem = there_cases integer (lookup fmt ms) ∙ sym (by_cases integer is_there refl refl (λ z. refl) (lookup fmt ms))
 
   decides_10 : (us : Members) (ks : List Key) → Decides (CriticalBroken ms us) (critical_broken (facts_of ms ks) (facts_of us ks))
   unfolding critical_broken facts_of
   decides_10 us ks =
       decides_iff first_two joined_two
-      (decides_or {a = lists_badly (crit_fact (lookup crit ms)) (fmt_there (fmt_fact (lookup fmt ms)))}
+      (decides_or {a = lists_badly (crit_fact (lookup crit ms)) (is_there (fmt_fact (lookup fmt ms)))}
       (rw (← fmt_there_lem, ← lists_badly_lem ms (lookup crit ms))
       (decides_or
       (decides_some (only_said strings crit) (λ ns.
@@ -237,14 +223,9 @@ module _ (ms : Members) (unique : repeated (names ms) ≡ false) where
 
   -- RULES 11 TO 14, and what is chosen
 
-  decides_kid_there : (ks : List Key) → Decides ((v : Value) × Has kid v ms) (kid_there (kid_fact ks (lookup kid ms)))
+  decides_kid_there : (ks : List Key) → Decides ((v : Value) × Has kid v ms) (is_there (kid_fact ks (lookup kid ms)))
   unfolding kid_fact
-  decides_kid_there ks =
-      rw (
-        by_cases string kid_there {f' = λ _. true} refl refl (λ s. by_found (λ a. kid_there a ≡ true) (λ i. refl) refl (found_by ks s)) (lookup kid ms),
-        ← there_cases string (lookup kid ms),
-      )
-      (decides_has kid ms)
+  decides_kid_there ks = decides_there kid ms (found_by ks) string
 
   decides_11 : Decides ((s : List ℕ) × Says string alg ms s × (s ≡ HS256 → ⊥)) (alg_other (alg_fact (lookup alg ms)))
   unfolding alg_fact

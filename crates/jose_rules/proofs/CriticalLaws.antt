@@ -10,6 +10,8 @@ use Rattle.common.specs.Options.{absent, given, bind}
 use Rattle.common.specs.Same.{same}
 use Rattle.common.proofs.SameLaws.{decides_same}
 use Rattle.json_grammar_rules.specs.Value.{Value, Members, among, repeated}
+use Rattle.jose_rules.specs.declared.Said.{Said}
+use Rattle.jose_rules.specs.declared.Listed.{Listed}
 use Rattle.jose_rules.specs.Names.{fmt}
 use Rattle.jose_rules.specs.Members.{strings}
 use Rattle.jose_rules.specs.Facts.{lookup, pick, fact, names_from, names_by, crit_fact, lists_badly}
@@ -23,22 +25,26 @@ abbrev pub empty : List (List ℕ) → Bool
 empty [] = true
 empty (n ∷ ns) = false
 
+-- a list that is there
+abbrev bad_list : Listed → Bool → Bool
+bad_list c there = lists_badly (Said.Is c) there
+
 -- a name that stood twice or may not be listed stays so
-stays_bad : (ns : List (List ℕ)) (l there : Bool) → lists_badly (names_from l true ns) there ≡ true
+stays_bad : (ns : List (List ℕ)) (l there : Bool) → bad_list (names_from l true ns) there ≡ true
 unfolding names_from
 stays_bad [] l there = refl
 stays_bad (n ∷ ns) l there = go (same n fmt) (stays_bad ns true there) (stays_bad ns l there)
   where
-    go : (t : Bool) → lists_badly (names_from true true ns) there ≡ true → lists_badly (names_from l true ns) there ≡ true
-        → lists_badly (cond t (names_from true true ns) (names_from l true ns)) there ≡ true
+    go : (t : Bool) → bad_list (names_from true true ns) there ≡ true → bad_list (names_from l true ns) there ≡ true
+        → bad_list (cond t (names_from true true ns) (names_from l true ns)) there ≡ true
     go true x y = x
     go false x y = y
 
-two_bad : (n m : List ℕ) (ns : List (List ℕ)) (there : Bool) → lists_badly (names_from false false (n ∷ m ∷ ns)) there ≡ true
+two_bad : (n m : List ℕ) (ns : List (List ℕ)) (there : Bool) → bad_list (names_from false false (n ∷ m ∷ ns)) there ≡ true
 unfolding names_from
 two_bad n m ns there = go (same n fmt) (same m fmt)
   where
-    go : (a b : Bool) → lists_badly (cond a (cond b (names_from true true ns) (names_from true true ns)) (cond b (names_from true true ns) (names_from false true ns))) there ≡ true
+    go : (a b : Bool) → bad_list (cond a (cond b (names_from true true ns) (names_from true true ns)) (cond b (names_from true true ns) (names_from false true ns))) there ≡ true
     go true true = stays_bad ns true there
     go true false = stays_bad ns true there
     go false true = stays_bad ns true there
@@ -75,7 +81,7 @@ module _ (ms : Members) where
       go (some v) true = refl
       go (some v) false = refl
 
-  one_name : (n : List ℕ) → faults (n ∷ []) || cond (any_of (λ m. same m fmt) (n ∷ [])) false there ≡ lists_badly (names_from false false (n ∷ [])) there
+  one_name : (n : List ℕ) → faults (n ∷ []) || cond (any_of (λ m. same m fmt) (n ∷ [])) false there ≡ bad_list (names_from false false (n ∷ [])) there
   unfolding any_of repeated among names_from
   one_name n = go (same n fmt) refl (decides_same n fmt)
     where
@@ -84,12 +90,12 @@ module _ (ms : Members) where
       alone (some v) = refl
 
       go : (a : Bool) → same n fmt ≡ a → Decides (n ≡ fmt) a
-          → faults (n ∷ []) || cond (any_of (λ m. same m fmt) (n ∷ [])) false there ≡ lists_badly (names_from false false (n ∷ [])) there
+          → faults (n ∷ []) || cond (any_of (λ m. same m fmt) (n ∷ [])) false there ≡ bad_list (names_from false false (n ∷ [])) there
       go false e p = rw e
       go true e (holds p) = let s : lookup n ms ≡ lookup fmt ms = ap (λ (k : List ℕ). lookup k ms) p in rw (e, s) (alone (lookup fmt ms))
 
   listing : (o : Option (List (List ℕ))) → given faults o || given (λ v. not (given (λ ns. any_of (λ m. same m fmt) ns) o)) (lookup fmt ms)
-      ≡ pick there there (λ ns. lists_badly (names_by ns) there) o
+      ≡ pick there there (λ ns. bad_list (names_by ns) there) o
   listing none = unlisted false
   listing (some []) = refl
   listing (some (n ∷ [])) = ap (λ (b : Bool). faults (n ∷ []) || b) (unlisted (any_of (λ m. same m fmt) (n ∷ []))) ∙ one_name n
@@ -103,6 +109,6 @@ module _ (ms : Members) where
   lists_badly_lem o = go o ∙ sym (by_cases strings (λ c. lists_badly c there) refl refl (λ ns. refl) o)
     where
       go : (o : Option Value) → given faults (bind o strings) || given (λ v. not (given (λ ns. any_of (λ m. same m fmt) ns) (bind o strings))) (lookup fmt ms)
-          ≡ fact there there (λ ns. lists_badly (names_by ns) there) strings o
+          ≡ fact there there (λ ns. bad_list (names_by ns) there) strings o
       go none = unlisted false
       go (some v) = listing (strings v)

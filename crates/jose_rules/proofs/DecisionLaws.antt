@@ -7,25 +7,44 @@ use Rattle.std.proofs.Math.Option.{Option, none, some}
 use Rattle.std.proofs.Math.ListN.{length}
 use borrow.Author.Tests.{ltb-false}
 use Rattle.common.specs.First.{first}
+use Rattle.answers.specs.declared.Refusal.{Refusal}
+use Rattle.answers.specs.Numbers.{number}
 use Rattle.common.proofs.FirstLaws.{all_pass, passed, pass_left, first_passed}
 use Rattle.common.specs.Options.{absent, or_else}
 use Rattle.json_grammar_rules.specs.Value.{Value, Members}
 use Rattle.json_rules.specs.Rules.{longest}
 use Rattle.json_characters.specs.Utf8.{utf8}
-use Rattle.keytable_rules.specs.declared.Found.{Found}
-use Rattle.keytable_rules.specs.declared.Found.TheVariants.{At, Nothing}
+use Rattle.std.specs.Prelude.{Option as Perhaps, Some, None}
 use Rattle.keytable_rules.specs.Key.{Key, find}
 use Rattle.keytable_rules.proofs.KeyLaws.{found}
 use Rattle.keytable_rules.specs.Table.{bad_table, keys}
-use Rattle.jose_rules.specs.declared.Kid.{Kid}
+use Rattle.jose_rules.specs.declared.Said.{Said}
 use Rattle.jose_rules.specs.declared.Choice.{Choice}
-use Rattle.jose_rules.specs.declared.Decision.TheVariants.{Refused, Chosen}
 use Rattle.jose_rules.specs.Names.{kid}
 use Rattle.jose_rules.specs.Members.{string}
 use Rattle.jose_rules.specs.Rules.{Terms, terms_of}
-use Rattle.jose_rules.specs.Facts.{lookup, pick, key_by, kid_fact, facts_of, chosen_key, choice_by}
+use Rattle.jose_rules.specs.Facts.{lookup, pick, kid_fact, facts_of, chosen_key, choice_by}
 use Rattle.jose_rules.specs.HeaderTests.{header_facts, jose_tests, header_choice}
-use Rattle.jose_rules.specs.Decision.{decision_by, opening_tests, deciding_tests, decision_with, decision}
+use Rattle.jose_rules.specs.Decision.{Refused, Chosen, decision_by, opening_tests, deciding_tests, decision_with, decision}
+
+-- NO REFUSAL has the number of what is done
+pub not_done : (r : Refusal) → number r ≡ 0 → ⊥
+not_done Refusal.TokenTooLong e = omega arith
+not_done Refusal.BadTable e = omega arith
+not_done Refusal.NotTwoPeriods e = omega arith
+not_done Refusal.NotBase64url e = omega arith
+not_done Refusal.HeaderTooLong e = omega arith
+not_done Refusal.BufferTooShort e = omega arith
+not_done Refusal.NotDerived e = omega arith
+not_done Refusal.NameTwice e = omega arith
+not_done Refusal.WrongKind e = omega arith
+not_done Refusal.Critical e = omega arith
+not_done Refusal.WrongAlg e = omega arith
+not_done Refusal.NoKey e = omega arith
+not_done Refusal.AlgNotAllowed e = omega arith
+not_done Refusal.FormatNotAllowed e = omega arith
+not_done Refusal.SignatureDiffers e = omega arith
+not_done Refusal.NoSuchMember e = omega arith
 
 -- A NUMBER AND A CHOICE, apart again
 
@@ -47,11 +66,11 @@ chosen_within ms ks {i} e = go (lookup kid ms) e
     never : {B : Type 0} → some i ≡ none → B
     never e = absurd (let z : ◌≡◌ {A = ℕ} 0 1 = cc in omega arith)
 
-    by_id : (f : Found) → ((j : ℕ) → f ≡ At j → j < length ks) → some i ≡ chosen_key (key_by f) → i < length ks
-    by_id (At j) h e = h i (let x : j ≡ i = cc in rw x)
-    by_id Nothing h e = never e
+    by_id : (f : Perhaps ℕ) → ((j : ℕ) → f ≡ Some j → j < length ks) → some i ≡ chosen_key (Said.Is f) → i < length ks
+    by_id (Some j) h e = h i (let x : j ≡ i = cc in rw x)
+    by_id None h e = never e
 
-    said : (o : Option (List ℕ)) → some i ≡ chosen_key (pick Kid.Absent Kid.Wrong (λ s. key_by (find (utf8 s) ks)) o) → i < length ks
+    said : (o : Option (List ℕ)) → some i ≡ chosen_key (pick Said.Absent Said.Wrong (λ s. Said.Is (find (utf8 s) ks)) o) → i < length ks
     said none e = never e
     said (some s) e = by_id (find (utf8 s) ks) (λ j f. (found f).within) e
 

@@ -1,23 +1,16 @@
 -- Facts by their three cases: the member is absent, of the wrong kind, or says something. And the facts of two headers together.
 use Rattle.std.specs.Prelude.{◌≡◌, refl, Bool, cond, not, ℕ}
-use Rattle.std.proofs.Common.{sym}
 use Rattle.std.proofs.Math.Bool.{true, false}
-use mathlib.Core.List.{List, [], ◌∷◌}
+use mathlib.Core.List.{List}
 use Rattle.std.proofs.Math.Option.{Option, none, some}
 use Rattle.common.specs.Options.{absent, given, bind}
 use Rattle.common.specs.Same.{same}
 use Rattle.json_grammar_rules.specs.Value.{Value, Members, mnil, mcons}
-use Rattle.keytable_rules.specs.declared.Found.{Found}
-use Rattle.keytable_rules.specs.declared.Found.TheVariants.{At, Nothing}
 use Rattle.keytable_rules.specs.Key.{Key}
-use Rattle.jose_rules.specs.declared.Alg.{Alg}
-use Rattle.jose_rules.specs.declared.Kid.{Kid}
-use Rattle.jose_rules.specs.declared.Text.{Text}
-use Rattle.jose_rules.specs.declared.Crit.{Crit}
-use Rattle.jose_rules.specs.declared.Fmt.{Fmt}
-use Rattle.jose_rules.specs.Names.{alg, kid, typ, cty, crit, fmt, HS256}
+use Rattle.jose_rules.specs.declared.Said.{Said}
+use Rattle.jose_rules.specs.Names.{alg, kid, typ, cty, crit, fmt}
 use Rattle.jose_rules.specs.Members.{Meaning, string, strings, integer}
-use Rattle.jose_rules.specs.Facts.{lookup, pick, fact, alg_by, key_by, found_by, names_from, names_by, alg_fact, kid_fact, text_fact, crit_fact, fmt_fact, facts_of, joined, alg_or, kid_or, text_or, crit_or, fmt_or, merged}
+use Rattle.jose_rules.specs.Facts.{lookup, pick, fact, said, alg_by, found_by, names_by, alg_fact, kid_fact, text_fact, crit_fact, fmt_fact, facts_of, joined, said_or, merged}
 
 -- a function of a fact, by the three cases
 module _ {A F B : Type 0} {a w : F} {f : A → F} (k : Meaning A) (g : F → B) {a' w' : B} {f' : A → B} (p : g a ≡ a') (q : g w ≡ w') (r : (x : A) → g (f x) ≡ f' x) where
@@ -63,33 +56,6 @@ module _ {A : Type 0} (k : Meaning A) where
       go none = refl
       go (some x) = refl
 
--- what holds of any names holds of those of `crit`
-module _ (P : Crit → Type 0) (all : (b l : Bool) → P (Crit.Names b l)) where
-  from_names : (ns : List (List ℕ)) (l b : Bool) → P (names_from l b ns)
-  unfolding names_from
-  from_names [] l b = all b l
-  from_names (n ∷ ns) l b = go (same n fmt) (from_names ns _ _) (from_names ns _ _)
-    where
-      go : {x y : Crit} (t : Bool) → P x → P y → P (cond t x y)
-      go true x y = x
-      go false x y = y
-
-  pub by_names : (ns : List (List ℕ)) → P (names_by ns)
-  by_names [] = all true false
-  by_names (n ∷ ns) = from_names (n ∷ ns) false false
-
--- what holds of both algorithms, and of a key found or not
-pub by_algorithm : (P : Alg → Type 0) → P Alg.HS256 → P Alg.Other → (s : List ℕ) → P (alg_by s)
-by_algorithm P x y s = go (same s HS256)
-  where
-    go : (b : Bool) → P (cond b Alg.HS256 Alg.Other)
-    go true = x
-    go false = y
-
-pub by_found : (P : Kid → Type 0) → ((i : ℕ) → P (Kid.Key i)) → P Kid.Unknown → (f : Found) → P (key_by f)
-by_found P x y (At i) = x i
-by_found P x y Nothing = y
-
 -- TWO HEADERS
 
 abbrev either : Option Value → Option Value → Option Value
@@ -106,20 +72,19 @@ lookup_joined n (mcons m v ps) us = go (same m n) (lookup_joined n ps us)
     go false e = e
 
 -- the first one's fact stands unless it is absent
-module _ {A F : Type 0} (a w : F) (f : A → F) (k : Meaning A) (or : F → F → F) (first : (x : F) → or a x ≡ x) (wrong : (x : F) → or w x ≡ w) (says : (y : A) (x : F) → or (f y) x ≡ f y) where
-  fact_either : (o q : Option Value) → fact a w f k (either o q) ≡ or (fact a w f k o) (fact a w f k q)
-  fact_either none q = sym (first (fact a w f k q))
-  fact_either (some v) q = go (k v) (fact a w f k q)
-    where
-      go : (o : Option A) (x : F) → pick a w f o ≡ or (pick a w f o) x
-      go none x = sym (wrong x)
-      go (some y) x = sym (says y x)
+said_either : {A B : Type 0} (f : A → B) (k : Meaning A) (o q : Option Value) → said f k (either o q) ≡ said_or (said f k o) (said f k q)
+said_either f k none q = refl
+said_either {A} f k (some v) q = go (k v)
+  where
+    go : (o : Option A) → pick Said.Absent Said.Wrong (λ a. Said.Is (f a)) o ≡ said_or (pick Said.Absent Said.Wrong (λ a. Said.Is (f a)) o) (said f k q)
+    go none = refl
+    go (some a) = refl
 
 -- THE FACTS OF JOINED MEMBERS are the merged facts
 pub facts_joined : (ps us : Members) (ks : List Key) → facts_of (joined ps us) ks ≡ merged (facts_of ps ks) (facts_of us ks)
 unfolding facts_of merged alg_fact kid_fact text_fact crit_fact fmt_fact
 facts_joined ps us ks =
-    let text : (n : List ℕ) → _ = λ n. fact_either Text.Absent Text.Wrong (λ _. Text.There) string text_or (λ x. refl) (λ x. refl) (λ s x. refl) (lookup n ps) (lookup n us) in
+    let text : (n : List ℕ) → _ = λ n. said_either (λ _. tt {0}) string (lookup n ps) (lookup n us) in
     rw (
       lookup_joined alg ps us,
       lookup_joined kid ps us,
@@ -127,10 +92,10 @@ facts_joined ps us ks =
       lookup_joined cty ps us,
       lookup_joined crit ps us,
       lookup_joined fmt ps us,
-      fact_either Alg.Absent Alg.Wrong alg_by string alg_or (λ x. refl) (λ x. refl) (λ s x. by_algorithm (λ a. alg_or a x ≡ a) refl refl s) (lookup alg ps) (lookup alg us),
-      fact_either Kid.Absent Kid.Wrong (λ s. key_by (found_by ks s)) string kid_or (λ x. refl) (λ x. refl) (λ s x. by_found (λ a. kid_or a x ≡ a) (λ i. refl) refl (found_by ks s)) (lookup kid ps) (lookup kid us),
+      said_either alg_by string (lookup alg ps) (lookup alg us),
+      said_either (found_by ks) string (lookup kid ps) (lookup kid us),
       text typ,
       text cty,
-      fact_either Crit.Absent Crit.Wrong names_by strings crit_or (λ x. refl) (λ x. refl) (λ ns x. by_names (λ c. crit_or c x ≡ c) (λ b l. refl) ns) (lookup crit ps) (lookup crit us),
-      fact_either Fmt.Absent Fmt.Wrong Fmt.Is integer fmt_or (λ x. refl) (λ x. refl) (λ z x. refl) (lookup fmt ps) (lookup fmt us),
+      said_either names_by strings (lookup crit ps) (lookup crit us),
+      said_either (λ z. z) integer (lookup fmt ps) (lookup fmt us),
     )

@@ -1,5 +1,5 @@
 -- The rules of a header's bytes and their tests agree; where none holds, what is computed is decided, and is the only thing decided.
-use Rattle.std.specs.Prelude.{◌≡◌, refl, ◌⊎◌, Bool, true, cond, List, ℕ, ◌≤◌}
+use Rattle.std.specs.Prelude.{◌≡◌, refl, Bool, true, cond, List, ℕ, ◌≤◌}
 use Rattle.std.proofs.Common.{sym, ap, ◌∙◌, inl, inr, ⊎_elim}
 use Rattle.std.proofs.Math.Bool.{false}
 use Rattle.common.specs.Bytes.{Bytes}

@@ -11,14 +11,12 @@ use Rattle.keytable_rules.specs.Table.{Wellformed, keys}
 use Rattle.keytable_rules.proofs.TableLaws.{decides_bad}
 use Rattle.keytable_rules.proofs.GoodKeys.{keys_distinct}
 use Rattle.jose_rules.specs.declared.Choice.{Choice}
-use Rattle.jose_rules.specs.declared.Decision.{Decision}
-use Rattle.jose_rules.specs.declared.Decision.TheVariants.{Refused, Chosen}
 use Rattle.jose_rules.specs.Rules.{terms_of}
 use Rattle.jose_rules.specs.Header.{HeaderChooses}
 use Rattle.jose_rules.specs.Deciding.{opening_rules, deciding}
 use Rattle.jose_rules.specs.HeaderTests.{header_choice}
 use Rattle.jose_rules.proofs.HeaderLaws.{jose_agree, header_chooses_one}
-use Rattle.jose_rules.specs.Decision.{decision_by, deciding_tests, decision}
+use Rattle.jose_rules.specs.Decision.{Decision, Refused, Chosen, decision_by, deciding_tests, decision}
 
 -- the specification's number of a decision
 abbrev pub answer_of : Decision → ℕ

@@ -1,13 +1,22 @@
 -- What a header decides, or the number of the first rule that refuses it: what `decide_with` and `decide` answer.
-use Rattle.std.specs.Prelude.{List, [], ◌∷◌, ◌++◌, ℕ, length}
+use Rattle.std.specs.Prelude.{List, [], ◌∷◌, ◌++◌, ℕ, length, Result, Ok, Err}
+use Rattle.answers.specs.declared.Refusal.{Refusal}
+use Rattle.answers.specs.Numbers.{number}
 use Rattle.common.specs.First.{Test, first, settle}
 use Rattle.json_rules.specs.Tests.{length_test}
 use Rattle.keytable_rules.specs.Table.{table_test, keys}
 use Rattle.jose_rules.specs.declared.Choice.{Choice}
-use Rattle.jose_rules.specs.declared.Decision.{Decision}
-use Rattle.jose_rules.specs.declared.Decision.TheVariants.{Refused, Chosen}
 use Rattle.jose_rules.specs.Rules.{Terms, terms_of}
 use Rattle.jose_rules.specs.HeaderTests.{jose_tests, header_choice}
+
+pub data Decision : Type 0 where
+  Refused : ℕ → Decision
+  Chosen : Choice → Decision
+
+-- as the code answers it
+abbrev pub decided : Result Choice Refusal → Decision
+decided (Ok c) = Chosen c
+decided (Err r) = Refused (number r)
 
 -- by the number of the first rule that refuses, or 0
 abbrev pub decision_by : ℕ → Choice → Decision

@@ -5,6 +5,7 @@ pub mod Rules
 pub mod Header
 pub mod Deciding
 -- The tests, by what a header says apart from its text; and what the functions answer.
+pub mod Verdict
 pub mod Facts
 pub mod HeaderTests
 pub mod Decision

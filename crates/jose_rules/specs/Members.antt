@@ -1,10 +1,8 @@
 -- An object's members by name, and what their values say. "Names [..] are compared by code points."
-use Rattle.std.specs.Prelude.{◌≡◌, ◌⊎◌, List, [], ◌∷◌, ℕ, ℤ}
+use Rattle.std.specs.Prelude.{◌≡◌, ◌⊎◌, List, [], ◌∷◌, ℕ, ℤ, Option as Perhaps, Some as Known, None}
 use Rattle.std.proofs.Math.Option.{Option, none, some}
 use Rattle.json_grammar_rules.specs.Value.{Value, Values, Members, string_v, number_v, true_v, false_v, null_v, array_v, object_v, vnil, vcons, mnil, mcons}
 use Rattle.decimal_rules.specs.Integer.{integer_of}
-use Rattle.decimal_rules.specs.declared.Integer.{Integer}
-use Rattle.decimal_rules.specs.declared.Integer.TheVariants.{Is, No}
 use Rattle.common.specs.Options.{bind}
 
 -- a member with the name n has the value v
@@ -43,9 +41,9 @@ abbrev pub strings : Meaning (List (List ℕ))
 strings v = by_kind (λ s. none) (λ cs. none) strings_in none v
 
 -- "a number from -2^63 to 2^63 - 1, spelled without `.`, `e` or `E`" says its value
-abbrev pub value_of : Integer → Option ℤ
-value_of (Is z) = some z
-value_of No = none
+abbrev pub value_of : Perhaps ℤ → Option ℤ
+value_of (Known z) = some z
+value_of None = none
 
 abbrev pub integer : Meaning ℤ
 integer v = by_kind (λ s. none) (λ cs. value_of (integer_of cs)) (λ vs. none) none v

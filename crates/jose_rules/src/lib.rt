@@ -1,67 +1,85 @@
 // What a header decides with a key table: the rules on its known members (RFC 7515 section 4 with the house rules; answers 2, 5 and 7
-// to 14) as definitions and theorems, in specs/ and proofs/, and the results that they speak of. `jose_facts`, `jose_judging` and `jose` compute them.
+// to 14) as definitions and theorems, in specs/ and proofs/, and the types that they speak of. `jose_facts`, `jose_judging` and `jose` compute them.
 #![tactic(auto)]
 
-// WHAT A HEADER SAYS of each known member, with no text and no place: `Absent` where it has no such member, `Wrong` where the member is
-// of the wrong kind.
+ghost use Rattle.std.specs.Prelude.{◌≡◌};
+ghost use Rattle.jose_rules.specs.Facts.{said_or, is_missing, is_wrong, is_there};
 
-// `alg`: HS256, or another name.
+// WHAT A HEADER SAYS of a known member, with no text and no place.
 #[derive(Clone, Copy)]
-pub enum Alg {
+pub enum Said<T> {
+    // The header has no such member.
     Absent,
+    // The member is of the wrong kind.
     Wrong,
-    Other,
+    // What it says.
+    Is(T),
+}
+
+impl<T: Copy> Said<T> {
+    // What the one says, or the other where the one is absent. Rules out the other's for the one's, and the other's lost.
+    pub fn or(self, other: Said<T>) -> Said<T>
+        ensures { result ≡ said_or self other }
+    {
+        match self {
+            Said::Absent => other,
+            Said::Wrong | Said::Is(_) => self,
+        }
+    }
+
+    // Whether it says nothing. Rules out that a wrong kind says something, and that an absent member does.
+    pub fn is_missing(self) -> bool
+        ensures { result ≡ is_missing self }
+    {
+        !matches!(self, Said::Is(_))
+    }
+
+    // Whether the member is of the wrong kind. Rules out that an absent one is, and that one of the right kind is.
+    pub fn is_wrong(self) -> bool
+        ensures { result ≡ is_wrong self }
+    {
+        matches!(self, Said::Wrong)
+    }
+
+    // Whether there is such a member. Rules out that one of the wrong kind isn't there, and that an absent one is.
+    pub fn is_there(self) -> bool
+        ensures { result ≡ is_there self }
+    {
+        !matches!(self, Said::Absent)
+    }
+}
+
+// What `alg` says.
+#[derive(Clone, Copy)]
+pub enum Algorithm {
     HS256,
+    Other,
 }
 
-// `kid`: the index of the key that has this id, or that no key has it.
+// What the list of `crit` says: whether it is empty, has a name twice or a name that may not be listed; and whether it lists `fmt`.
 #[derive(Clone, Copy)]
-pub enum Kid {
-    Absent,
-    Wrong,
-    Unknown,
-    Key(usize),
-}
-
-// `typ` and `cty`.
-#[derive(Clone, Copy)]
-pub enum Text {
-    Absent,
-    Wrong,
-    There,
-}
-
-// `crit`: whether its list is empty, has a name twice or a name that may not be listed; and whether it lists `fmt`.
-#[derive(Clone, Copy)]
-pub enum Crit {
-    Absent,
-    Wrong,
-    Names(bool, bool),
-}
-
-// `fmt`: its number.
-#[derive(Clone, Copy)]
-pub enum Fmt {
-    Absent,
-    Wrong,
-    Is(i64),
+pub struct Listed {
+    pub bad: bool,
+    pub fmt: bool,
 }
 
 #[derive(Clone, Copy)]
 pub struct Facts {
-    pub alg: Alg,
-    pub kid: Kid,
-    pub typ: Text,
-    pub cty: Text,
-    pub crit: Crit,
-    pub fmt: Fmt,
+    pub alg: Said<Algorithm>,
+    // The index of the key that has this id, if one has it.
+    pub kid: Said<Option<usize>>,
+    pub typ: Said<()>,
+    pub cty: Said<()>,
+    pub crit: Said<Listed>,
+    pub fmt: Said<i64>,
 }
 
-// What the facts decide: the number of the first rule that refuses, or the key's index, whether `kid` is there, and the format.
+// What the facts take where no rule refuses: the key's index, whether `kid` is there, and the format.
 #[derive(Clone, Copy)]
-pub enum Verdict {
-    Refused(u8),
-    Takes(usize, bool, u8),
+pub struct Taken {
+    pub key_index: usize,
+    pub kid_present: bool,
+    pub format: u8,
 }
 
 // A part of a header: the place of its first byte, and how many bytes it has.
@@ -72,7 +90,7 @@ pub struct Part {
 }
 
 // What a header decides: the key's index, whether `kid` is there, the format, and the raw texts of `typ` and `cty` between their
-// quotation marks (0 and 0 where they are absent).
+// quotation marks. (The C interface's record has 0 and 0 where they are absent, and so have the promises: no Option.)
 #[derive(Clone, Copy)]
 pub struct Choice {
     pub key_index: usize,
@@ -80,11 +98,4 @@ pub struct Choice {
     pub format: u8,
     pub typ: Part,
     pub cty: Part,
-}
-
-// The number of the first rule that refuses the header, or what it decides.
-#[derive(Clone, Copy)]
-pub enum Decision {
-    Refused(u8),
-    Chosen(Choice),
 }

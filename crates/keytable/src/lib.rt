@@ -1,75 +1,103 @@
 // The keys that a table's bytes mean. The table is read at each call, straight from its bytes; ids and secrets are handed on as parts of it.
-// Every function asks for a table that isn't bad (`keytable_check::good`).
 #![tactic(auto)]
 
-ghost use Rattle.std.specs.Prelude.{◌≡◌, false, ◌+◌, ◌≤◌, ◌<◌, length, get_or};
+ghost use Rattle.std.specs.Prelude.{◌≡◌, true, false, ◌+◌, ◌≤◌, ◌<◌, length, get_or, MatchOption};
 ghost use Rattle.keytable_rules.specs.Key.{key, allows_hs256, allows_format, find};
 ghost use Rattle.keytable_rules.specs.Table.{entry_size, entry_place, bad_table, keys};
 
 use common::number2_at;
 use keytable_areas::{area, entry_at, id_of, same};
-pub use keytable_rules::Found;
 
-// How many keys there are. Rules out the edition in its place, and a count read one byte on.
-pub fn count(table: &[u8]) -> usize
-    requires { bad_table table.now ≡ false }
-    ensures { result ≡ length (keys table.now) }
-{
-    number2_at(table, 2) as usize
+// A table that is in order.
+#[derive(Clone, Copy)]
+pub struct KeyTable<'a> {
+    pub bytes: &'a [u8],
+    pub ghost in_order: { bad_table bytes.now ≡ false },
 }
 
-// The id of key i. Rules out the secret in its place, and the id of the first key.
-pub fn id(table: &[u8], i: usize) -> &[u8]
-    requires { (bad_table table.now ≡ false) × (i < length (keys table.now)) }
-    ensures { result.now ≡ (key (keys table.now) i).id }
-{
-    id_of(table, i)
-}
-
-// The secret of key i. Rules out the id in its place, and the secret of the next key.
-pub fn secret(table: &[u8], i: usize) -> &[u8]
-    requires { (bad_table table.now ≡ false) × (i < length (keys table.now)) }
-    ensures { result.now ≡ (key (keys table.now) i).secret }
-{
-    area(table, entry_at(i) + 4)
-}
-
-// Byte k of entry i.
-fn entry_byte(table: &[u8], i: usize, k: usize) -> u8
-    requires { (bad_table table.now ≡ false) × (i < length (keys table.now)) × (k < entry_size) }
-    ensures { result ≡ get_or table.now (entry_place i + k) 0 }
-{
-    table[entry_at(i) + k]
-}
-
-// Whether key i allows HS256. Rules out a look at the formats, and the bit turned round.
-pub fn allows_hs256(table: &[u8], i: usize) -> bool
-    requires { (bad_table table.now ≡ false) × (i < length (keys table.now)) }
-    ensures { result ≡ allows_hs256 (key (keys table.now) i) }
-{
-    entry_byte(table, i, 8) % 2 == 1
-}
-
-// Whether key i allows format f. Rules out the next format's bit, and bits counted from the other end.
-pub fn allows_format(table: &[u8], i: usize, f: u8) -> bool
-    requires { (bad_table table.now ≡ false) × (i < length (keys table.now)) × (1 ≤ f) × (f ≤ 8) }
-    ensures { result ≡ allows_format (key (keys table.now) i) f }
-{
-    (entry_byte(table, i, 9) >> (f - 1)) % 2 == 1
-}
-
-// The index of the key with this id. Rules out an index one off, and a key whose id only begins so.
-pub fn find(table: &[u8], wanted: &[u8]) -> Found
-    requires { bad_table table.now ≡ false }
-    ensures { result ≡ find wanted.now (keys table.now) }
-{
-    let n = count(table);
-    let mut i: usize = 0;
-    while i < n {
-        if same(id(table, i), wanted) {
-            return Found::At(i);
+impl<'a> KeyTable<'a> {
+    // The table that these bytes are, or none where they aren't in order. Rules out a table that is bad, and one in order refused.
+    pub fn new(bytes: &'a [u8]) -> Option<KeyTable<'a>>
+        ensures { MatchOption result (bad_table bytes.now ≡ true) (λ t. t.bytes.now ≡ bytes.now) }
+    {
+        if keytable_check::good(bytes) {
+            Some(KeyTable { bytes })
+        } else {
+            None
         }
-        i += 1;
     }
-    Found::Nothing
+
+    // How many keys there are. Rules out the edition in its place, and a count read one byte on.
+    pub fn count(self) -> usize
+        ensures { result ≡ length (keys self.entry.bytes.now) }
+    {
+        number2_at(self.bytes, 2) as usize
+    }
+
+    // Key i. Rules out the first key for every index, and the next one.
+    pub fn key(self, index: usize) -> KeyEntry<'a>
+        requires { index < length (keys self.bytes.now) }
+        ensures { (result.index ≡ index) × (result.table.bytes.now ≡ self.entry.bytes.now) }
+    {
+        KeyEntry { table: self, index }
+    }
+
+    // The index of the key with this id. Rules out an index one off, and a key whose id only begins so.
+    pub fn find(self, wanted: &[u8]) -> Option<usize>
+        ensures { result ≡ find wanted.now (keys self.entry.bytes.now) }
+    {
+        for i in 0..self.count() {
+            if same(self.key(i).id(), wanted) {
+                return Some(i);
+            }
+        }
+        None
+    }
+}
+
+// A key of a table that is in order.
+#[derive(Clone, Copy)]
+pub struct KeyEntry<'a> {
+    pub table: KeyTable<'a>,
+    pub index: usize,
+    pub ghost counted: { index < length (keys table.bytes.now) },
+}
+
+impl<'a> KeyEntry<'a> {
+    // Its id. Rules out the secret in its place, and the id of the first key.
+    pub fn id(self) -> &'a [u8]
+        ensures { result.now ≡ (key (keys self.entry.table.bytes.now) self.entry.index).id }
+    {
+        id_of(self.table.bytes, self.index)
+    }
+
+    // Its secret. Rules out the id in its place, and the secret of the next key.
+    pub fn secret(self) -> &'a [u8]
+        ensures { result.now ≡ (key (keys self.entry.table.bytes.now) self.entry.index).secret }
+    {
+        area(self.table.bytes, entry_at(self.index) + 4)
+    }
+
+    // Byte k of its entry.
+    fn byte(self, k: usize) -> u8
+        requires { k < entry_size }
+        ensures { result ≡ get_or self.entry.table.bytes.now (entry_place self.entry.index + k) 0 }
+    {
+        self.table.bytes[entry_at(self.index) + k]
+    }
+
+    // Whether it allows HS256. Rules out a look at the formats, and the bit turned round.
+    pub fn allows_hs256(self) -> bool
+        ensures { result ≡ allows_hs256 (key (keys self.entry.table.bytes.now) self.entry.index) }
+    {
+        self.byte(8) % 2 == 1
+    }
+
+    // Whether it allows format f. Rules out the next format's bit, and bits counted from the other end.
+    pub fn allows_format(self, f: u8) -> bool
+        requires { (1 ≤ f) × (f ≤ 8) }
+        ensures { result ≡ allows_format (key (keys self.entry.table.bytes.now) self.entry.index) f }
+    {
+        (self.byte(9) >> (f - 1)) % 2 == 1
+    }
 }

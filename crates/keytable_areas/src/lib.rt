@@ -26,8 +26,8 @@ pub fn area(table: &[u8], at: usize) -> &[u8]
     ensures { result.now ≡ part table.now (area_at table.now at) }
 {
     let start = number2_at(table, at) as usize;
-    let end = start + number2_at(table, at + 2) as usize;
-    &table[start..end]
+    let size = number2_at(table, at + 2) as usize;
+    &table[start..start + size]
 }
 
 // The id that entry i places. Rules out the secret in its place, and the id of the next entry.
@@ -38,22 +38,7 @@ pub fn id_of(table: &[u8], i: usize) -> &[u8]
     area(table, entry_at(i))
 }
 
-// Whether two slices of one length have the same bytes, byte by byte.
-fn same_bytes(a: &[u8], b: &[u8]) -> bool
-    requires { length a.now ≡ length b.now }
-    ensures { Decides (a.now ≡ b.now) result }
-{
-    let mut i: usize = 0;
-    while i < a.len() {
-        if a[i] != b[i] {
-            return false;
-        }
-        i += 1;
-    }
-    true
-}
-
-// Whether two slices have the same bytes, eight at a time; the last eight may overlap those before them.
+// Whether two slices have the same bytes, eight at a time, since `==` looks at one after the other; the last eight may overlap those before them.
 // Rules out slices that are only as long as one another, and one that is the beginning of the other.
 pub fn same(a: &[u8], b: &[u8]) -> bool
     ensures { Decides (a.now ≡ b.now) result }
@@ -63,15 +48,13 @@ pub fn same(a: &[u8], b: &[u8]) -> bool
         return false;
     }
     if n < 8 {
-        return same_bytes(a, b);
+        return a == b;
     }
     let last = n - 8;
-    let mut i: usize = 0;
-    while i < last {
+    for i in (0..last).step_by(8) {
         if word8_at(a, i) != word8_at(b, i) {
             return false;
         }
-        i += 8;
     }
     word8_at(a, last) == word8_at(b, last)
 }

@@ -1,8 +1,7 @@
 -- Tables on both sides of the rules, computed: the rows of one claim.
-use Rattle.std.specs.Prelude.{◌≡◌, refl, true, false, List, [], ◌∷◌, ◌++◌, ℕ, zero, suc, ◌+◌, ◌-◌, ◌*◌, ◌/◌, ◌%◌, ◌≤◌, length, replicate}
+use Rattle.std.specs.Prelude.{◌≡◌, refl, true, false, List, [], ◌∷◌, ◌++◌, ℕ, zero, suc, ◌+◌, ◌-◌, ◌*◌, ◌/◌, ◌%◌, ◌≤◌, length, replicate, Some, None}
 use Rattle.std.proofs.Common.{arith}
 use Rattle.std.proofs.lemmas.List.{length-replicate}
-use Rattle.keytable_rules.specs.declared.Found.TheVariants.{At, Nothing}
 use Rattle.common.specs.Same.{same}
 use Rattle.keytable_rules.specs.Key.{Key, find, allows_hs256, allows_format}
 use Rattle.keytable_rules.specs.Table.{Wellformed, bad_table, keys, below, listed}
@@ -90,8 +89,8 @@ pub record Examples : Type 0 where
   pub equal_ids : bad_table (two 32 2 34 2) ≡ true
   pub one_place : bad_table (two 32 2 32 2) ≡ true
   pub prefix : bad_table (two 32 2 34 3) ≡ false
-  pub second : find (65 ∷ 66 ∷ 67 ∷ []) (keys (two 32 2 34 3)) ≡ At 1
-  pub neither : find (65 ∷ []) (keys (two 32 2 34 3)) ≡ Nothing
+  pub second : find (65 ∷ 66 ∷ 67 ∷ []) (keys (two 32 2 34 3)) ≡ Some 1
+  pub neither : find (65 ∷ []) (keys (two 32 2 34 3)) ≡ None
   -- HS256 by bit 0 of the algorithms; formats 1 and 3 by bits 0 and 2 of the formats, and not 2 or 4; format 8 by bit 7
   pub hs256 : allows_hs256 (allowing 1 0) ≡ true
   pub no_hs256 : allows_hs256 (allowing 0 1) ≡ false

@@ -1,9 +1,8 @@
 -- What a table that isn't bad promises of its keys. Nothing in these statements speaks of the table's bytes.
-use Rattle.std.specs.Prelude.{◌≡◌, false, List, ℕ, ◌≤◌, ◌<◌, length}
+use Rattle.std.specs.Prelude.{◌≡◌, false, List, ℕ, ◌≤◌, ◌<◌, length, Some}
 use Rattle.std.proofs.Common.{sym, ap, ◌∙◌, arith, length-take, length-drop}
 use Rattle.common.specs.Bytes.{Bytes}
 use Rattle.common.specs.BytesLaws.{bytes_take, bytes_drop}
-use Rattle.keytable_rules.specs.declared.Found.TheVariants.{At}
 use Rattle.keytable_rules.proofs.KeyLaws.{find_is}
 use Rattle.keytable_rules.specs.Key.{Key, key, Distinct, Named, find}
 use Rattle.keytable_rules.specs.Table.{keys_most, id_least, id_most, secret_least, secret_most, algorithms_end, Area, part, id_area, secret_area, Placed, bad_table, keys}
@@ -19,7 +18,7 @@ keys_distinct T e i j l h same_id =
     (wellformed T e).ids j b.counted i l (sym (ap (λ k. k.id) a.means) ∙ same_id ∙ ap (λ k. k.id) b.means)
 
 -- the key that has an id is the one found
-pub find_key : (T : List ℕ) → bad_table T ≡ false → {id : List ℕ} {i : ℕ} → Named id (keys T) i → find id (keys T) ≡ At i
+pub find_key : (T : List ℕ) → bad_table T ≡ false → {id : List ℕ} {i : ℕ} → Named id (keys T) i → find id (keys T) ≡ Some i
 find_key T e n = find_is (keys_distinct T e) n
 
 pub record GoodKey (k : Key) : Type 0 where

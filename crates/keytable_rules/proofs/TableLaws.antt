@@ -1,14 +1,36 @@
 -- Laws of the key table's bytes: the test decides whether they are in order; where the entries lie; which keys they mean.
-use Rattle.std.specs.Prelude.{◌≡◌, refl, Bool, false, not, List, ℕ, zero, suc, ◌+◌, ◌≤◌, ◌<◌, length, get_or}
-use Rattle.std.proofs.Common.{sym, ap, subst, ⊎_elim, le_of_suc-le-suc, not-suc-le-zero, eq-or-lt_of_le, arith}
+use Rattle.std.specs.Prelude.{◌≡◌, refl, Bool, true, false, not, ◌&&◌, List, ℕ, zero, suc, ◌+◌, ◌≤◌, ◌<◌, length, get_or}
+use Rattle.std.proofs.Common.{sym, ap, subst, ⊎_elim, le_of_suc-le-suc, not-suc-le-zero, eq-or-lt_of_le, arith, add-one}
+use Rattle.std.proofs.Math.Bool.{and-false}
 use Rattle.common.specs.First.{Decides, holds}
 use Rattle.common.proofs.FirstLaws.{decides_not, decides_le, decides_lt, decides_eq, stable, ◌and◌}
-use Rattle.common.proofs.Decided.{when_true, decides_by}
+use Rattle.common.proofs.Decided.{when_true, decides_by, test_false}
 use Rattle.common.proofs.SameLaws.{decides_same}
 use Rattle.keytable_rules.specs.Key.{key, no_key}
 use Rattle.keytable_rules.specs.Table.{entry_size, table_least, count_of, entry_place, Area, id_of, Placed, GoodEntry, GoodEntries, NewId, Wellformed, below, is_placed, is_good_entry, is_new_id, is_wellformed, bad_table, key_of, listed, keys}
 
--- a test of each number below n
+-- a test of each number below n, number by number
+module _ (t : ℕ → Bool) where
+  pub below_none : true ≡ below 0 t
+  unfolding below
+  below_none = refl
+
+  pub below_next : {i : ℕ} → true ≡ below i t → t i ≡ true → true ≡ below (i + 1) t
+  unfolding below
+  below_next {i} e f = rw (add-one, ← e, f)
+
+  pub below_whole : {i n : ℕ} → true ≡ below i t → i ≤ n → n ≤ i → true ≡ below n t
+  below_whole {i} {n} e h k = let f : i ≡ n = omega arith in rw (← f) e
+
+  pub below_fails : {i n : ℕ} → i < n → t i ≡ false → below n t ≡ false
+  unfolding below
+  below_fails {i} {n = zero} h f = absurd (not-suc-le-zero h)
+  below_fails {i} {n = suc n} h f = ⊎_elim (λ e. last (subst (λ (k : ℕ). t k ≡ false) e f)) (λ k. let e : below n t ≡ false = below_fails k f in rw e) (eq-or-lt_of_le (le_of_suc-le-suc h))
+    where
+      last : t n ≡ false → below n t && t n ≡ false
+      last e = rw (e, and-false)
+
+-- .. and what it decides
 decides_below : {P : ℕ → Type 0} {t : ℕ → Bool} → ((i : ℕ) → Decides (P i) (t i)) → (n : ℕ) → Decides ((i : ℕ) → i < n → P i) (below n t)
 unfolding below
 decides_below d zero = holds (λ i h. absurd (not-suc-le-zero h))
@@ -29,6 +51,10 @@ decides_entry T i =
     decides_by (decides_placed _ _ _ _ and decides_placed _ _ _ _ and decides_lt _ _ and decides_eq _ _)
     (λ h. record { id = h.0.0.0; secret = h.0.0.1; algorithms = h.0.1; zeros = h.1 })
     (λ e. (((e.id, e.secret), e.algorithms), e.zeros))
+
+-- the entries that pass the test are good
+pub entries_good : (T : List ℕ) (n : ℕ) → below n (is_good_entry T) ≡ true → GoodEntries T n
+entries_good T n e = when_true (decides_below (decides_entry T) n) e
 
 decides_new : (T : List ℕ) (j : ℕ) → Decides (NewId T j) (is_new_id T j)
 decides_new T j = decides_below (λ i. decides_not (decides_same (id_of T i) (id_of T j))) j
@@ -87,6 +113,10 @@ room T l g = go (count_of T) refl
     go : (n : ℕ) → count_of T ≡ n → entry_place (count_of T) ≤ length T
     go zero e = omega arith
     go (suc n) e = let p = (g 0 (omega arith)).id in omega (arith, p.begins, p.ends)
+
+-- .. so that entries past the table's end aren't all good
+pub crowded : (T : List ℕ) → table_least ≤ length T → length T < entry_place (count_of T) → below (count_of T) (is_good_entry T) ≡ false
+crowded T l h = test_false (decides_below (decides_entry T) (count_of T)) (λ g. omega (arith, room T l g))
 
 -- entry i of a table in order: it lies within the table, is good, and means key i
 pub record Entry (T : List ℕ) (i : ℕ) : Type 0 where

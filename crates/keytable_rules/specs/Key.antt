@@ -1,7 +1,5 @@
 -- What a key table means, whatever its edition: a list of keys, what a key allows, and which key an id names.
-use Rattle.std.specs.Prelude.{◌≡◌, Bool, cond, List, [], ◌∷◌, ℕ, suc, ◌-◌, ◌/◌, ◌%◌, ◌^◌, ◌<◌, eqb, length, get_or}
-use Rattle.keytable_rules.specs.declared.Found.{Found}
-use Rattle.keytable_rules.specs.declared.Found.TheVariants.{At, Nothing}
+use Rattle.std.specs.Prelude.{◌≡◌, Bool, cond, List, [], ◌∷◌, ℕ, suc, ◌-◌, ◌/◌, ◌%◌, ◌^◌, ◌<◌, eqb, length, get_or, Option, Some, None}
 use Rattle.common.specs.Same.{same}
 
 pub record Key : Type 0 where
@@ -39,15 +37,15 @@ pub record Named (id : List ℕ) (ks : List Key) (i : ℕ) : Type 0 where
   pub is : (key ks i).id ≡ id
 
 -- the index of the key that has the id, or nothing where none has. (Of distinct ids the first is the only one: `find_is` of KeyLaws)
-pub data Finds (id : List ℕ) (ks : List Key) : Found → Type 0 where
-  first : {i : ℕ} → Named id ks i → ((j : ℕ) → j < i → (key ks j).id ≡ id → ⊥) → Finds id ks (At i)
-  none : ((j : ℕ) → Named id ks j → ⊥) → Finds id ks Nothing
+pub data Finds (id : List ℕ) (ks : List Key) : Option ℕ → Type 0 where
+  first : {i : ℕ} → Named id ks i → ((j : ℕ) → j < i → (key ks j).id ≡ id → ⊥) → Finds id ks (Some i)
+  none : ((j : ℕ) → Named id ks j → ⊥) → Finds id ks None
 
 -- the same, computed: `finds` of KeyLaws
-abbrev pub one_on : Found → Found
-one_on (At i) = At (suc i)
-one_on Nothing = Nothing
+abbrev pub one_on : Option ℕ → Option ℕ
+one_on (Some i) = Some (suc i)
+one_on None = None
 
-unfoldable pub find : List ℕ → List Key → Found
-find id [] = Nothing
-find id (k ∷ ks) = cond (same k.id id) (At 0) (one_on (find id ks))
+unfoldable pub find : List ℕ → List Key → Option ℕ
+find id [] = None
+find id (k ∷ ks) = cond (same k.id id) (Some 0) (one_on (find id ks))

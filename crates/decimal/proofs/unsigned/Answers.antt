@@ -1,32 +1,28 @@
 -- `unsigned`: the number so far is at most the bound, and with the digits that are left it gives the answer.
-use borrow.Author.Rules.{rules}
-use mathlib.Core.Path.{sym, ◌∙◌}
-use Prim.Native.Nat.{◌-◌}
-use Rattle.decimal.proofs.Laws.{no_digits, start, end, next, over, below, above}
+use Rattle.std.proofs.Common.{rules, sym, ◌∙◌, arith}
+use Rattle.decimal.proofs.Laws.{no_digits, start, end, next, over, no_digit, digit_small}
 use Rattle.decimal.proofs.unsigned.Goals as goal
 
-pub returns-then-text-eq0 : goal.returns-then-text-eq0
-returns-then-text-eq0 c = sym (no_digits _ _ c.if-text-eq0.true)
+pub returns-then-is_empty : goal.returns-then-is_empty
+returns-then-is_empty c = no_digits _ _ (search rules)
 
-pub loop-i-init : goal.loop-i-init
-loop-i-init c = (search rules, search rules, start _ _ c.if-text-eq0.false)
+pub loop-c-init : goal.loop-c-init
+loop-c-init c = (search rules, start _ _ (search rules))
 
-pub returns-then-c-lt48 : goal.returns-then-c-lt48
-returns-then-c-lt48 c = sym (c.loop-i.invariant.2 ∙ below _ _ _ _ c.loop-i-test.true c.if-c-lt48.true)
+pub returns-in_err-d : goal.returns-in_err-d
+returns-in_err-d c =
+    rw c.from_residual.ensures (sym (c.loop-c.invariant.1 ∙ no_digit _ _ _ _ c.loop-c-test.true c.in_err-d.ensures))
 
-pub returns-then-c-gt57 : goal.returns-then-c-gt57
-returns-then-c-gt57 c = sym (c.loop-i.invariant.2 ∙ above _ _ _ _ c.loop-i-test.true c.if-c-gt57.true)
+pub overflow_sub-most : goal.overflow_sub-most
+overflow_sub-most c = let l = digit_small _ c.in_ok-d.ensures in omega arith
 
 pub returns-then-most-d : goal.returns-then-most-d
-returns-then-most-d c =
-    sym (c.loop-i.invariant.2 ∙ over _ _ _ _ c.loop-i-test.true c.digit-d.ensures c.if-most-d.true)
+returns-then-most-d c = sym (c.loop-c.invariant.1 ∙ over _ _ _ _ c.loop-c-test.true c.in_ok-d.ensures c.if-most-d.true)
 
-pub loop-i-preserved : goal.loop-i-preserved
-loop-i-preserved c = (
-  search rules,
-  search rules,
-  c.loop-i.invariant.2 ∙ next _ _ _ _ c.loop-i-test.true c.digit-d.ensures c.if-c-lt48.false c.if-c-gt57.false,
-)
+pub loop-c-preserved : goal.loop-c-preserved
+loop-c-preserved c =
+    let l = digit_small _ c.in_ok-d.ensures in
+    (search rules, c.loop-c.invariant.1 ∙ next _ _ _ _ c.loop-c-test.true c.in_ok-d.ensures)
 
 pub returns : goal.returns
-returns c = sym (c.loop-i.invariant.2 ∙ end _ _ _ _ c.loop-i-test.false c.loop-i.invariant.1)
+returns c = sym (c.loop-c.invariant.1 ∙ end _ _ _ _ c.loop-c-test.false c.loop-c.invariant.0)

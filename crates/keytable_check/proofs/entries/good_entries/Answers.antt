@@ -1,16 +1,16 @@
 -- `good_entries`: the entries before i are good.
-use Prim.Native.Nat.{◌-◌}
-use native.Mathlib.Omega.{arith}
-use borrow.Author.Count.{below_more}
-use Rattle.common.specs.First.{holds, fails}
-use Rattle.common.proofs.Decided.{when_true, when_false}
+use Rattle.std.proofs.Common.{sym}
+use Rattle.keytable_rules.proofs.TableLaws.{below_none, below_next, below_whole, below_fails}
 use Rattle.keytable_check.proofs.entries.good_entries.Goals as goal
 
-pub loop-i-preserved : goal.loop-i-preserved
-loop-i-preserved c = (omega arith, below_more _ _ c.loop-i.invariant.1 (when_true c.good_entry.ensures c.if-good_entry.true))
+pub loop-i-init : goal.loop-i-init
+loop-i-init c = below_none _
 
-pub returns-else-good_entry : goal.returns-else-good_entry
-returns-else-good_entry c = fails (λ g. when_false c.good_entry.ensures c.if-good_entry.false (g _ c.loop-i-test.true))
+pub returns-then-not-good_entry : goal.returns-then-not-good_entry
+returns-then-not-good_entry c = sym (below_fails _ c.loop-i-test.true (sym c.if-not-good_entry.ensures))
+
+pub loop-i-preserved : goal.loop-i-preserved
+loop-i-preserved c = below_next _ c.loop-i.invariant (sym c.if-not-good_entry.ensures)
 
 pub returns : goal.returns
-returns c = holds (λ k h. c.loop-i.invariant.1 k (omega arith))
+returns c = below_whole _ c.loop-i.invariant c.loop-i.auto.i-end c.loop-i-test.false

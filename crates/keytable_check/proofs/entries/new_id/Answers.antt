@@ -1,26 +1,30 @@
 -- `new_id`: the ids before i differ from id j.
-use mathlib.Core.Path.{sym, ◌∙◌}
-use Prim.Native.Nat.{◌-◌}
-use native.Mathlib.Omega.{arith}
-use borrow.Author.Count.{below_more}
-use Rattle.common.specs.First.{holds, fails}
-use Rattle.keytable_rules.specs.Table.{id_of}
-use Rattle.common.proofs.Decided.{when_true, when_false}
+use Rattle.std.proofs.Common.{◌≡◌, Bool, not, List, ℕ, sym, ap, ◌∙◌, arith}
+use Rattle.common.specs.First.{Decides}
+use Rattle.common.specs.Same.{same}
+use Rattle.common.proofs.Decided.{decided}
+use Rattle.common.proofs.SameLaws.{decides_same}
+use Rattle.keytable_rules.proofs.TableLaws.{below_none, below_next, below_whole, below_fails, entries_good}
 use Rattle.keytable_check.proofs.entries.new_id.Goals as goal
 
+-- equal bytes, as the table's test
+told : {a b x y : List ℕ} {r : Bool} → Decides (a ≡ b) r → a ≡ x → b ≡ y → r ≡ same x y
+told d e f = rw (← e, ← f) (decided d (decides_same _ _))
+
 pub id_of-id-requires : goal.id_of-id-requires
-id_of-id-requires c = (omega arith, (c.requires.2 _ c.requires.0).id.ends)
+id_of-id-requires c = (omega arith, (entries_good _ _ c.requires.2 _ c.requires.0).id.ends)
+
+pub loop-i-init : goal.loop-i-init
+loop-i-init c = (below_none _, c.id_of-id.ensures)
 
 pub id_of-requires : goal.id_of-requires
-id_of-requires c = (omega arith, (c.requires.2 c.loop-i.i (omega arith)).id.ends)
+id_of-requires c = (omega arith, (entries_good _ _ c.requires.2 c.loop-i.i (omega arith)).id.ends)
 
 pub returns-then-same : goal.returns-then-same
-returns-then-same c =
-    fails (λ n. n _ c.loop-i-test.true (sym c.id_of.ensures ∙ when_true c.same.ensures c.if-same.true ∙ c.loop-i.invariant.2))
+returns-then-same c = sym (below_fails _ c.loop-i-test.true (ap not (sym (told c.same.ensures c.id_of.ensures c.loop-i.invariant.1) ∙ c.if-same.true)))
 
 pub loop-i-preserved : goal.loop-i-preserved
-loop-i-preserved c =
-    (omega arith, below_more _ _ c.loop-i.invariant.1 (λ e. when_false c.same.ensures c.if-same.false (c.id_of.ensures ∙ e ∙ sym c.loop-i.invariant.2)), c.loop-i.invariant.2)
+loop-i-preserved c = (below_next _ c.loop-i.invariant.0 (ap not (sym (told c.same.ensures c.id_of.ensures c.loop-i.invariant.1) ∙ c.if-same.false)), c.loop-i.invariant.1)
 
 pub returns : goal.returns
-returns c = holds (λ k h. c.loop-i.invariant.1 k (omega arith))
+returns c = below_whole _ c.loop-i.invariant.0 c.loop-i.auto.i-end c.loop-i-test.false

@@ -1,19 +1,19 @@
 -- `new_ids`: the ids before j differ.
-use Prim.Native.Nat.{◌-◌}
-use native.Mathlib.Omega.{arith}
-use borrow.Author.Count.{below_more}
-use Rattle.common.specs.First.{holds, fails}
-use Rattle.common.proofs.Decided.{when_true, when_false}
+use Rattle.std.proofs.Common.{sym, arith}
+use Rattle.keytable_rules.proofs.TableLaws.{below_none, below_next, below_whole, below_fails}
 use Rattle.keytable_check.proofs.entries.new_ids.Goals as goal
 
+pub loop-j-init : goal.loop-j-init
+loop-j-init c = below_none _
+
 pub new_id-requires : goal.new_id-requires
-new_id-requires c = (omega arith, omega arith, λ i h. c.requires.2 i (omega arith))
+new_id-requires c = (omega arith, omega arith, rw (← c.requires.0) c.requires.2)
+
+pub returns-then-not-new_id : goal.returns-then-not-new_id
+returns-then-not-new_id c = sym (below_fails _ c.loop-j-test.true (sym c.if-not-new_id.ensures))
 
 pub loop-j-preserved : goal.loop-j-preserved
-loop-j-preserved c = (omega arith, below_more _ _ c.loop-j.invariant.1 (when_true c.new_id.ensures c.if-new_id.true))
-
-pub returns-else-new_id : goal.returns-else-new_id
-returns-else-new_id c = fails (λ g. when_false c.new_id.ensures c.if-new_id.false (g _ c.loop-j-test.true))
+loop-j-preserved c = below_next _ c.loop-j.invariant (sym c.if-not-new_id.ensures)
 
 pub returns : goal.returns
-returns c = holds (λ k h. c.loop-j.invariant.1 k (omega arith))
+returns c = below_whole _ c.loop-j.invariant c.loop-j.auto.j-end c.loop-j-test.false
