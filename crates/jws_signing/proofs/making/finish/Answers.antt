@@ -11,7 +11,7 @@ use Rattle.jws_signing.proofs.making.finish.Goals as goal
 
 pub returns-then-payload-gt-TOKEN_MOST : goal.returns-then-payload-gt-TOKEN_MOST
 returns-then-payload-gt-TOKEN_MOST c =
-    refuse 1 (too_long c.args.header.now c.args.payload.now _ _ (payload_long c.args.header.now c.args.payload.now (omega arith))) c.refusal.ensures refl
+    refuse 1 (too_long c.args.header.now c.args.payload.now _ _ (payload_long c.args.header.now c.args.payload.now (omega arith))) refl refl
 
 pub overflow_add-n : goal.overflow_add-n
 overflow_add-n c = omega (arith, encoded_length_lem (length c.args.header.now), encoded_length_lem (length c.args.payload.now), c.encoded_len.ensures, c.encoded_len-2.ensures)
@@ -20,10 +20,10 @@ pub overflow_add-n-2 : goal.overflow_add-n-2
 overflow_add-n-2 c = omega (arith, encoded_length_lem (length c.args.header.now), encoded_length_lem (length c.args.payload.now), c.encoded_len.ensures, c.encoded_len-2.ensures)
 
 pub returns-then-n-gt-TOKEN_MOST : goal.returns-then-n-gt-TOKEN_MOST
-returns-then-n-gt-TOKEN_MOST c = let n = finished_size _ _ c.encoded_len.ensures c.encoded_len-2.ensures in refuse 1 (too_long _ _ _ _ (omega arith)) c.refusal-then-n-gt-TOKEN_MOST.ensures refl
+returns-then-n-gt-TOKEN_MOST c = let n = finished_size _ _ c.encoded_len.ensures c.encoded_len-2.ensures in refuse 1 (too_long _ _ _ _ (omega arith)) refl refl
 
 pub returns-then-token-n : goal.returns-then-token-n
-returns-then-token-n c = let n = finished_size _ _ c.encoded_len.ensures c.encoded_len-2.ensures in refuse 6 (too_short _ _ _ _ (omega arith) (omega arith)) c.refusal-then-token-n.ensures refl
+returns-then-token-n c = let n = finished_size _ _ c.encoded_len.ensures c.encoded_len-2.ensures in refuse 6 (too_short _ _ _ _ (omega arith) (omega arith)) refl refl
 
 pub compose-requires : goal.compose-requires
 compose-requires c = omega (arith, finished_size _ _ c.encoded_len.ensures c.encoded_len-2.ensures)
