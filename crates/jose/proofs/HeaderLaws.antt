@@ -12,7 +12,7 @@ use Rattle.common.specs.Same.{same}
 use Rattle.json_grammar_rules.specs.Value.{LMembers, item, named, lnil, lcons}
 use Rattle.json_grammar_rules.specs.Places.{placed}
 use Rattle.json_grammar_rules.specs.declared.Kind.{Kind}
-use Rattle.json_string.specs.declared.End.{End}
+use Rattle.json_string.specs.Ends.{End}
 use Rattle.json_rules.specs.declared.Place.{Place}
 use Rattle.json_rules.specs.Rules.{longest, deepest}
 use Rattle.json_rules.specs.Tests.{members_in, grammar_tests}

@@ -1,4 +1,5 @@
 -- What `crit` says, element by element.
+use Rattle.std.specs.Prelude.{Some, None}
 use mathlib.Core.Path.{◌≡◌, refl, sym, ap, ◌∙◌, subst}
 use mathlib.Core.Bool.{Bool, true, false, cond, ◌||◌}
 use mathlib.Core.List.{List, ◌∷◌}
@@ -10,8 +11,7 @@ use Rattle.common.specs.Options.{bind}
 use Rattle.common.specs.Same.{same}
 use Rattle.json_grammar_rules.specs.Value.{LValue, LItems, item, inil, icons, plain, plain_item, plain_items}
 use Rattle.json_grammar_rules.specs.declared.Kind.{Kind}
-use Rattle.json_string.specs.declared.End.{End}
-use Rattle.json_string.specs.declared.End.TheVariants.{At, Bad}
+use Rattle.json_string.specs.Ends.{End}
 use Rattle.json_string.specs.Strings.{text_is}
 use Rattle.json_string.specs.WordLaws.{is_ascii, text_word}
 use Rattle.json_rules.specs.declared.Place.{Place}
@@ -71,10 +71,10 @@ module _ {h : List ℕ} {p d : ℕ} {i : Item} (it : ItemAt h p d i) where
               ∙ step w.0 (c ∙ text_word fmt refl h i.value.start w.0 w.2) (strings_in (plain_items vs)),
         )
 
-    pub names_next : {q : ℕ} {r : Crit} → i.next ≡ At q → NamesGo h q d l' b' r → NamesGo h p d l b r
+    pub names_next : {q : ℕ} {r : Crit} → i.next ≡ Some q → NamesGo h q d l' b' r → NamesGo h p d l b r
     names_next e w = record { is = λ vs o. let u = one vs o in w.is u.0 (subst (λ (x : End). ElementsFrom h d x u.0) e u.1) ∙ sym u.2 }
 
-    pub names_last : i.next ≡ Bad → NamesGo h p d l b (Crit.Names b' l')
+    pub names_last : i.next ≡ None → NamesGo h p d l b (Crit.Names b' l')
     unfolding strings_in plain_items names_from
     names_last e = record { is = last }
       where
@@ -116,7 +116,7 @@ module _ {h : List ℕ} {d : ℕ} {s : Slot} where
       pub crit_within : ShownAt h d s → x.start < length h
       crit_within w = (array_at (shown w.item (shows_as e w.shows)).stands y).2
 
-      pub crit_some : {p : ℕ} {r : Crit} → FirstElement h x.start (At p) → NamesGo h p (d - 1) false false r → CritFactIs h d s r
+      pub crit_some : {p : ℕ} {r : Crit} → FirstElement h x.start (Some p) → NamesGo h p (d - 1) false false r → CritFactIs h d s r
       unfolding crit_fact plain
       crit_some {p} f g = record {
         is = λ o w.
@@ -127,7 +127,7 @@ module _ {h : List ℕ} {d : ℕ} {s : Slot} where
             ∙ sym (fact_is Crit.Absent Crit.Wrong names_by strings o v ∙ ap (λ (u : LValue). pick Crit.Absent Crit.Wrong names_by (strings (plain u))) a.1);
       }
 
-      pub crit_empty : FirstElement h x.start Bad → CritFactIs h d s (Crit.Names true false)
+      pub crit_empty : FirstElement h x.start None → CritFactIs h d s (Crit.Names true false)
       unfolding crit_fact strings_in plain_items plain
       crit_empty f = record {
         is = λ o w.

@@ -1,4 +1,5 @@
 -- The next mark of a text: a law for each way through `next_mark`.
+use Rattle.std.specs.Prelude.{Some, None}
 use mathlib.Core.Path.{◌≡◌, sym, ap, ◌∙◌, subst}
 use mathlib.Core.Bool.{Bool, true, false}
 use mathlib.Core.List.{List, [], ◌∷◌, ◌++◌}
@@ -12,7 +13,6 @@ use Rattle.json_grammar_rules.specs.Reader.{ws, read_chars}
 use Rattle.json_grammar_rules.specs.Scan.{opens, closes, colon_next, marks_name, marks_string, marks}
 use Rattle.json_grammar_rules.specs.Scan as scan
 use Rattle.json_grammar_rules.proofs.ScanLaws.{marks_front, marks_none}
-use Rattle.json_string.specs.declared.End.TheVariants.{At, Bad}
 use Rattle.json_string.specs.Ends.{at_byte, left, shorter, fuel, ends_at, ends_bad}
 use Rattle.json_string.specs.Strings.{NameAt, StringEnds}
 use Rattle.json_tokens.specs.Tokens.{SkipsTo}
@@ -81,7 +81,7 @@ module _ (s : List ℕ) (at : ℕ) (h : at < length s) where
   first : {b : ℕ} → get_or s at 0 ≡ b → drop at s ≡ b ∷ drop (at + 1) s
   first e = at_byte s at h ∙ ap (λ (x : ℕ). x ∷ drop (at + 1) s) e
 
-  pub broken : get_or s at 0 ≡ 0x22 → StringEnds s (at + 1) Bad → MarkAt s at Nothing
+  pub broken : get_or s at 0 ≡ 0x22 → StringEnds s (at + 1) None → MarkAt s at Nothing
   unfolding StringEnds MarkAt marks
   broken b k = record {
     is = λ n l.
@@ -89,7 +89,7 @@ module _ (s : List ℕ) (at : ℕ) (h : at < length s) where
         λ m j. ap (marks (suc m)) (first b) ∙ ap (marks_string (λ y. marks m y)) (ends_bad s (at + 1) (read_chars m (drop (at + 1) s)) (k m j));
   }
 
-  module _ (e : ℕ) {t : Bool} (b : get_or s at 0 ≡ 0x22) (k : StringEnds s (at + 1) (At e)) (c : t ≡ colon_next (ws (drop e s))) where
+  module _ (e : ℕ) {t : Bool} (b : get_or s at 0 ≡ 0x22) (k : StringEnds s (at + 1) (Some e)) (c : t ≡ colon_next (ws (drop e s))) where
     string : (cs : List ℕ) × NameAt s (at + 1) cs × Shows s at e (marks_name t cs [])
     unfolding StringEnds NameAt marks
     string =

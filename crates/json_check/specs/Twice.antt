@@ -1,7 +1,6 @@
 -- Names that stand twice in one object: the search by passes that keep some names.
-use Rattle.std.specs.Prelude.{◌≡◌, Bool, true, false, List, [], ◌∷◌, ℕ, suc, ◌≤◌, ◌<◌, length, drop, get_or}
+use Rattle.std.specs.Prelude.{◌≡◌, Bool, true, false, List, [], ◌∷◌, ℕ, suc, ◌≤◌, ◌<◌, length, drop, get_or, Some, None}
 use Rattle.json_grammar_rules.specs.Scan.{marks, search, every, no_more}
-use Rattle.json_string.specs.declared.End.TheVariants.{At, Bad}
 use Rattle.json_string.specs.Strings.{NameAt, fingerprint_at}
 use Rattle.json_check.specs.declared.names.Search.{Search}
 use Rattle.json_check.specs.declared.names.Search.TheVariants.{Twice, Past}
@@ -39,5 +38,5 @@ TwiceFrom s p r = Finds every s p [] [] r
 -- what a pass says of it: one has; or one has from the next pass's place on; or none has
 unfoldable pub Searched : List ℕ → ℕ → Search → Type 0
 Searched s p Twice = TwiceFrom s p true
-Searched s p (Past (At q)) = (p < q) × (q ≤ length s) × ((r : Bool) → TwiceFrom s q r → TwiceFrom s p r)
-Searched s p (Past Bad) = TwiceFrom s p false
+Searched s p (Past (Some q)) = (p < q) × (q ≤ length s) × ((r : Bool) → TwiceFrom s q r → TwiceFrom s p r)
+Searched s p (Past None) = TwiceFrom s p false

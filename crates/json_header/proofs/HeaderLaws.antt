@@ -1,4 +1,5 @@
 -- What a header answers, and its members: a law for each way through each function.
+use Rattle.std.specs.Prelude.{Some, None}
 use mathlib.Core.Path.{◌≡◌, refl, sym, ap, ap₂, ◌∙◌, subst}
 use mathlib.Core.List.{List}
 use Prim.Native.Nat.{ℕ, zero, suc, ◌-◌, ◌≤◌, ◌<◌}
@@ -10,8 +11,7 @@ use Rattle.json_grammar_rules.specs.Value.{LMembers, item, named, lnil, lcons, p
 use Rattle.json_grammar_rules.specs.declared.Kind.{Kind}
 use Rattle.json_grammar_rules.specs.Places.{kind_of, placed, member}
 use Rattle.json_grammar_rules.specs.Reader.{Got, got, read}
-use Rattle.json_string.specs.declared.End.{End}
-use Rattle.json_string.specs.declared.End.TheVariants.{At, Bad}
+use Rattle.json_string.specs.Ends.{End}
 use Rattle.json_members.specs.declared.steps.Entry.{Entry}
 use Rattle.json_members.specs.Members.{MembersAt, MembersFrom, TopMembers, EntryAt}
 use Rattle.json_members.specs.MemberLaws.{no_members}
@@ -55,7 +55,7 @@ module _ {s : List ℕ} {p : ℕ} (d : ℕ) {e : Entry} (en : EntryAt s p d e) w
           c ∙ ap (λ (k : Kind). shown_by k e.name e.value) i.1.kind
           ∙ ap₂ (shown_by (kind_of (plain v))) (ap₂ place i.0.start i.0.end) (ap₂ place i.1.start i.1.end)
 
-  pub pick_next : {q : ℕ} {r : Member} (k : ℕ) → (k ≡ 0 → ⊥) → e.next ≡ At q → Picks s q d (k - 1) r → Picks s p d k r
+  pub pick_next : {q : ℕ} {r : Member} (k : ℕ) → (k ≡ 0 → ⊥) → e.next ≡ Some q → Picks s q d (k - 1) r → Picks s p d k r
   unfolding member
   pick_next zero z c w = absurd (z refl)
   pick_next {q} {r} (suc k) z c w = record { is = go }
@@ -66,7 +66,7 @@ module _ {s : List ℕ} {p : ℕ} (d : ℕ) {e : Entry} (en : EntryAt s p d e) w
           let j : suc k - 1 ≡ k = omega arith in
           w.is ms (subst (λ (x : End). MembersFrom s d x ms) c (en.is f t n a b v ms m).2) ∙ ap (λ (x : ℕ). answer_for (member s x ms)) j
 
-  pub pick_none : (k : ℕ) → (k ≡ 0 → ⊥) → e.next ≡ Bad → Picks s p d k (Refused 16)
+  pub pick_none : (k : ℕ) → (k ≡ 0 → ⊥) → e.next ≡ None → Picks s p d k (Refused 16)
   unfolding member answer_for
   pick_none zero z c = absurd (z refl)
   pick_none (suc k) z c = record { is = go }
@@ -93,9 +93,9 @@ module _ (h : List ℕ) (k : ℕ) where
         f i.0 i.1 i.2 ∙ ap (λ (g : Got LMembers). answer_for (member h k (members_in g))) (sym i.2)
         ∙ ap (λ (x : ℕ). unless_refused x (answer_for (member h k (members_in (read deepest h))))) (sym c)
 
-    pub member_none : TopMembers h Bad → Refused 16 ≡ member_of h k
+    pub member_none : TopMembers h None → Refused 16 ≡ member_of h k
     unfolding member answer_for
     member_none t = member_is (Refused 16) (λ ms x c. ap (λ (y : LMembers). answer_for (member h k y)) (sym (t.is deepest ms x c)))
 
-    pub member_picked : {p : ℕ} {r : Member} → TopMembers h (At p) → Picks h p (deepest - 1) k r → r ≡ member_of h k
+    pub member_picked : {p : ℕ} {r : Member} → TopMembers h (Some p) → Picks h p (deepest - 1) k r → r ≡ member_of h k
     member_picked {p} {r} t w = member_is r (λ ms x c. w.is ms (t.is deepest ms x c))

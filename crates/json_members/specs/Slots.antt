@@ -1,12 +1,11 @@
 -- Slots: of the first member with a name, the kind and the place of its value, or that it is absent; and a walk over an object's members that
 -- fills a slot for each of some names.
-use Rattle.std.specs.Prelude.{◌≡◌, Bool, true, false, cond, List, ℕ, ◌+◌, ◌-◌, ◌<◌, length}
+use Rattle.std.specs.Prelude.{◌≡◌, Bool, true, false, cond, List, ℕ, ◌+◌, ◌-◌, ◌<◌, length, Some}
 use Rattle.std.proofs.Math.Option.{Option, none, some}
 use Rattle.common.specs.Same.{same}
 use Rattle.json_grammar_rules.specs.Value.{Value, LItem, LMembers, item, named, lnil, lcons, plain_item}
 use Rattle.json_grammar_rules.specs.declared.Kind.{Kind}
-use Rattle.json_string.specs.declared.End.{End}
-use Rattle.json_string.specs.declared.End.TheVariants.{At}
+use Rattle.json_string.specs.Ends.{End}
 use Rattle.json_string.specs.Strings.{NameAt, text_is}
 use Rattle.json_rules.specs.declared.Place.{Place}
 use Rattle.json_members.specs.declared.slots.Slot.{Slot}
@@ -78,7 +77,7 @@ taken_at h p m w s = taken_by (text_is h (p + 1) w) m s
 
 -- a place in the text, or none
 pub record Within (h : List ℕ) (r : End) : Type 0 where
-  pub at : (p : ℕ) → r ≡ At p → p < length h
+  pub at : (p : ℕ) → r ≡ Some p → p < length h
 
 -- THE WALK OVER THE MEMBERS, with a slot for each w of W in a record of type S
 

@@ -1,5 +1,5 @@
 -- Laws of the steps: where members or elements stand, a step gives the first of them and says where the others stand.
-use Rattle.std.specs.Prelude.{◌≡◌, Bool, take, get_or}
+use Rattle.std.specs.Prelude.{◌≡◌, Bool, take, get_or, Some, None}
 use Rattle.std.proofs.Math.Path.{refl, sym, ap, subst}
 use Rattle.std.proofs.Common.{ap₂, ◌∙◌, arith, sub-one, eqb-true}
 use Rattle.std.proofs.Math.Bool.{true, false}
@@ -17,9 +17,7 @@ use Rattle.json_grammar_rules.proofs.Sequences.{Sequence, sequence, members, ele
 use Rattle.json_grammar_rules.specs.Levels.{read_bare, read_member}
 use Rattle.json_grammar_rules.proofs.Endings.{Ending, shorter_ending, at_ending, ending_of, ending_drop, ending_byte, ending_ws, ValueRead, value_read, name_ends, colon_ends}
 use Rattle.json_grammar_rules.proofs.Fuel.{value_fuel, member_fuel}
-use Rattle.json_string.specs.declared.End.{End}
-use Rattle.json_string.specs.declared.End.TheVariants.{At, Bad}
-use Rattle.json_string.specs.Ends.{at_byte}
+use Rattle.json_string.specs.Ends.{End, at_byte}
 use Rattle.json_string.specs.Strings.{NameAt}
 use Rattle.json_reader.specs.Reads.{read_trimmed, read_array, kind_by}
 use Rattle.json_reader.specs.ValueLaws.{trimmed_kind}
@@ -31,7 +29,7 @@ use Rattle.json_members.specs.Members.{ReadsAt, ReadsFrom, MembersAt, MembersFro
 use Rattle.json_members.specs.Steps.{first_in, first_member, first_element, top_in, top_members, start_in, next_in, item_by, item_in, item_at, entry_by, entry_in, entry_at}
 
 -- Bad is no place
-pub never : {B : Type 0} {q : ℕ} → Bad ≡ At q → B
+pub never : {B : Type 0} {q : ℕ} → None ≡ Some q → B
 never e = absurd (let z : ◌≡◌ {A = ℕ} 0 1 = cc in omega arith)
 
 -- WHERE A SEQUENCE STANDS, once for members and elements
@@ -83,12 +81,12 @@ module _ {A B : Type 0} {nothing : A} {cons : B → A → A} {one : ℕ → ℕ 
 
 -- WHERE THE ANSWERS LIE
 
-start_within : (s x : List ℕ) (p : ℕ) → length x ≤ length s → start_in s x ≡ At p → (p < length s) × (pos s x ≡ p)
+start_within : (s x : List ℕ) (p : ℕ) → length x ≤ length s → start_in s x ≡ Some p → (p < length s) × (pos s x ≡ p)
 unfolding start_in pos
 start_within s [] p l e = never e
 start_within s (b ∷ x) p l e = let z : pos s (b ∷ x) ≡ p = cc in (omega arith, z)
 
-first_within : (close : ℕ) (s x : List ℕ) (p : ℕ) → length x ≤ length s → first_in close s x ≡ At p → p < length s
+first_within : (close : ℕ) (s x : List ℕ) (p : ℕ) → length x ≤ length s → first_in close s x ≡ Some p → p < length s
 unfolding first_in start_in
 first_within close s [] p l e = never e
 first_within close s (b ∷ x) p l e = go (eqb b close) refl
@@ -97,7 +95,7 @@ first_within close s (b ∷ x) p l e = go (eqb b close) refl
     go true h = never (rw h at e)
     go false h = (start_within s (b ∷ x) p l (rw h at e)).0
 
-next_later : (s y : List ℕ) (q : ℕ) → length y ≤ length s → next_in s y ≡ At q → (pos s y < q) × (q < length s)
+next_later : (s y : List ℕ) (q : ℕ) → length y ≤ length s → next_in s y ≡ Some q → (pos s y < q) × (q < length s)
 unfolding next_in pos
 next_later s [] q l e = never e
 next_later s (b ∷ x) q l e = go (eqb b 0x2C) refl
@@ -238,7 +236,7 @@ pub item_at_lem : (s : List ℕ) (p d : ℕ) {r : Item} → r ≡ item_at s p d 
 unfolding item_at item_in item_by pos
 item_at_lem s p d e = subst (λ (z : Item). ItemAt s p d z) (sym e) (record { later = later (read_value (length s) d (drop p s)) refl; is = is })
   where
-    later : (g : Got LItem) → read_value (length s) d (drop p s) ≡ g → (q : ℕ) → (item_in s g).next ≡ At q → (p < q) × (q < length s)
+    later : (g : Got LItem) → read_value (length s) d (drop p s) ≡ g → (q : ℕ) → (item_in s g).next ≡ Some q → (p < q) × (q < length s)
     later bad c q f = never f
     later (got (item a b v) y) c q f =
         let r = value_read (length s) d (drop p s) a b v y c in
@@ -299,7 +297,7 @@ pub entry_at_lem : (s : List ℕ) (p d : ℕ) {r : Entry} → r ≡ entry_at s p
 unfolding entry_at entry_in entry_by item_in item_by pos
 entry_at_lem s p d e = subst (λ (z : Entry). EntryAt s p d z) (sym e) (record { later = later (read_member (length s) d (drop p s)) refl; is = is })
   where
-    later : (g : Got LMember) → read_member (length s) d (drop p s) ≡ g → (q : ℕ) → (entry_in s g).next ≡ At q → (p < q) × (q < length s)
+    later : (g : Got LMember) → read_member (length s) d (drop p s) ≡ g → (q : ℕ) → (entry_in s g).next ≡ Some q → (p < q) × (q < length s)
     later bad c q f = never f
     later (got (named n t cs (item a b v)) y) c q f =
         let m = member_inv (length s) d (drop p s) (named n t cs (item a b v)) y c in

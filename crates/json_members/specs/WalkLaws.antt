@@ -1,13 +1,12 @@
 -- The walk over an object's members, for any names: each slot shows the first member with its name.
-use Rattle.std.specs.Prelude.{◌≡◌, refl, Bool, cond, List, ℕ, ◌+◌}
+use Rattle.std.specs.Prelude.{◌≡◌, refl, Bool, cond, List, ℕ, ◌+◌, Some, None}
 use Rattle.std.proofs.Common.{sym, ◌∙◌}
 use Rattle.std.proofs.Math.Path.{ap, subst}
 use Rattle.std.proofs.Math.Bool.{true, false}
 use Rattle.std.proofs.Math.Option.{Option, none, some}
 use Rattle.common.specs.Same.{same}
 use Rattle.json_grammar_rules.specs.Value.{LValue, LItem, LMembers, item, named, lnil, lcons}
-use Rattle.json_string.specs.declared.End.{End}
-use Rattle.json_string.specs.declared.End.TheVariants.{At, Bad}
+use Rattle.json_string.specs.Ends.{End}
 use Rattle.json_string.specs.WordLaws.{is_ascii, text_word}
 use Rattle.json_members.specs.declared.slots.Slot.{Slot}
 use Rattle.json_members.specs.declared.slots.Slot.TheVariants.{Absent, Is}
@@ -77,12 +76,12 @@ module _ {W S : Type 0} {name : W → List ℕ} {slot : W → S → Slot} {h : L
             let n = nt.is c (first_name d f t c (item a b v) rest here) in
             (rest, e.2, λ w. subst (λ (s : Slot). Passed h d (name w) s rest ms) (sym (n w)) (pass m e.1 (slot w old) (before w)))
 
-    pub walk_next : {q : ℕ} → m.next ≡ At q → Walking name slot h from q d new
+    pub walk_next : {q : ℕ} → m.next ≡ Some q → Walking name slot h from q d new
     walk_next e = record {
       is = λ ms at. let s = step ms at in (s.0, subst (λ (r : End). MembersFrom h d r s.0) e s.1, s.2);
     }
 
-    pub walk_end : m.next ≡ Bad → Walked name slot h from d new
+    pub walk_end : m.next ≡ None → Walked name slot h from d new
     unfolding item_of
     walk_end e = record { is = ended }
       where
@@ -96,10 +95,10 @@ module _ {W S : Type 0} {name : W → List ℕ} {slot : W → S → Slot} {h : L
             p.shows
 
   -- from where the members begin
-  pub from_some : {r : End} {p d : ℕ} {m : S} → r ≡ At p → Walked name slot h p d m → KnownFrom name slot h r d m
+  pub from_some : {r : End} {p d : ℕ} {m : S} → r ≡ Some p → Walked name slot h p d m → KnownFrom name slot h r d m
   from_some {d = d} e w = record { is = λ ms at. w.is ms (subst (λ (x : End). MembersFrom h d x ms) e at) }
 
-  pub from_none : {r : End} {d : ℕ} {m : S} → r ≡ Bad → NoneKnown slot m → KnownFrom name slot h r d m
+  pub from_none : {r : End} {d : ℕ} {m : S} → r ≡ None → NoneKnown slot m → KnownFrom name slot h r d m
   unfolding item_of
   from_none {r} {d} {m} e n = record { is = shows }
     where
