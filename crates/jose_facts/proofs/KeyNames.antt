@@ -11,7 +11,7 @@ use lib.ListN.{length, take, drop, length-append}
 use lib.Seq.{take-append_seam}
 use borrow.Author.Tests.{leb-true, leb-false, le-leb}
 use Rattle.json_characters.specs.Utf8.{utf8}
-use Rattle.json_string.specs.Ends.{Resolved}
+use Rattle.json_string.specs.Ends.{End}
 use Rattle.json_string.specs.Strings.{NameAt, resolved, resolved_to, resolved_at, resolved_to_at}
 use Rattle.json_string.specs.StringLaws.{name_resolved, name_resolved_to}
 use Rattle.keytable_rules.specs.declared.Found.{Found}
@@ -30,7 +30,7 @@ written : (old u : List ℕ) → length u ≤ length old → resolved_to old u �
 unfolding resolved_to
 written old u l = rw (le-leb (length u) (length old) l)
 
-module _ (h : List ℕ) (p : ℕ) (old new : List ℕ) (r : Resolved) (s : (r ≡ resolved_at h p old) × (new ≡ resolved_to_at h p old)) (cs : List ℕ) (a : NameAt h p cs) where
+module _ (h : List ℕ) (p : ℕ) (old new : List ℕ) (r : End) (s : (r ≡ resolved_at h p old) × (new ≡ resolved_to_at h p old)) (cs : List ℕ) (a : NameAt h p cs) where
   answered : ((length (utf8 cs) ≤ length old) × (r ≡ Some (length (utf8 cs)))) ⊎ ((length old < length (utf8 cs)) × (r ≡ None))
   unfolding resolved
   answered = go (leb (length (utf8 cs)) (length old)) refl (s.0 ∙ name_resolved h p cs a old)
@@ -60,7 +60,7 @@ module _ (h : List ℕ) (p : ℕ) (old new : List ℕ) (r : Resolved) (s : (r �
       let z : n - 0 ≡ length (utf8 cs) = omega (arith, (resolved_size e).0) in
       rw (z, resolved_now e) (take-append_seam (utf8 cs) (drop (length (utf8 cs)) old))
 
-module _ (h T : List ℕ) (p : ℕ) (old new : List ℕ) (r : Resolved) (s : (r ≡ resolved_at h p old) × (new ≡ resolved_to_at h p old)) where
+module _ (h T : List ℕ) (p : ℕ) (old new : List ℕ) (r : End) (s : (r ≡ resolved_at h p old) × (new ≡ resolved_to_at h p old)) where
   pub named_found : {n : ℕ} {f : Found} → r ≡ Some n → f ≡ find (take (n - 0) (drop 0 new)) (keys T) → KeyNamed h p (keys T) f
   named_found e c = record { is = λ cs a. c ∙ ap (λ (u : List ℕ). find u (keys T)) (resolved_front h p old new r s cs a e) }
 

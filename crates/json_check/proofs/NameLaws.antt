@@ -1,5 +1,4 @@
 -- Names that stand twice: a law for each way through each function.
-use Rattle.std.specs.Prelude.{Some, None}
 use mathlib.Core.Path.{◌≡◌, refl, sym, ap, ◌∙◌, subst}
 use mathlib.Core.Bool.{Bool, true, false, ◌||◌}
 use mathlib.Core.List.{List, [], ◌∷◌}
@@ -12,7 +11,7 @@ use Rattle.json_grammar_rules.specs.Scan.{opens, closes, marks, around, beyond, 
 use Rattle.json_grammar_rules.proofs.ScanLaws.{search_parts}
 use Rattle.json_string.specs.Strings.{same_text, fingerprint_at}
 use Rattle.json_check.specs.declared.names.Search.{Search}
-use Rattle.json_check.specs.declared.names.Search.TheVariants.{Twice, Past}
+use Rattle.json_check.specs.declared.names.Search.TheVariants.{Twice, Once, Unfinished}
 use Rattle.json_check.specs.Marks.{Shows, NameShown, NoMarks}
 use Rattle.json_check.specs.Twice.{Finds, none, Held, outermost, Holds, Meets, TwiceFrom, Searched}
 use Rattle.json_check.proofs.StackLaws.{held_names, held_low, held_name, held_opens, held_bare, held_closes, Without, found}
@@ -126,7 +125,7 @@ module _ {s : List ℕ} {from : ℕ} {a m : List ℕ} {j k p : ℕ} (fl : Fillin
       agrees = λ r f. fl.agrees r (finds_closes b o h f);
     }
 
-  pub filling_last : NoMarks s p → Searched s from (Past None)
+  pub filling_last : NoMarks s p → Searched s from Once
   unfolding Searched
   filling_last h = fl.agrees false (finds_none b o h)
 
@@ -139,7 +138,7 @@ module _ {s : List ℕ} {from : ℕ} {a m : List ℕ} {j k p : ℕ} (fl : Fillin
     unfolding Searched
     filling_met e = fl.agrees true (parts_met (met e))
 
-    pub filling_past : t ≡ false → 0 < k → Searched s from (Past (Some p))
+    pub filling_past : t ≡ false → 0 < k → Searched s from (Unfinished p)
     unfolding Searched
     filling_past e l = (omega (arith, fl.low), fl.high, λ r f. fl.agrees r (parts_past (met e) r f))
 
@@ -263,12 +262,6 @@ module _ {s a m : List ℕ} {top n from j k i p : ℕ} (mt : Meeting s a m top n
 
 -- PASS BY PASS
 
--- the places that are left to a search
-abbrev pub left : List ℕ → Search → ℕ
-left s Twice = 0
-left s (Past None) = 0
-left s (Past (Some q)) = suc (length s - q)
-
 module _ (s : List ℕ) (p : ℕ) {x : Search} (h : Searched s p x) where
   searched : {y : Search} → x ≡ y → Searched s p y
   searched e = subst (λ (z : Search). Searched s p z) e h
@@ -277,21 +270,11 @@ module _ (s : List ℕ) (p : ℕ) {x : Search} (h : Searched s p x) where
   unfolding Searched
   twice e = searched e
 
-  pub once : x ≡ Past None → TwiceFrom s p false
+  pub once : x ≡ Once → TwiceFrom s p false
   unfolding Searched
   once e = searched e
 
-  past : {q : ℕ} → x ≡ Past (Some q) → (p < q) × (q ≤ length s) × ((r : Bool) → TwiceFrom s q r → TwiceFrom s p r)
-  unfolding Searched
-  past e = searched e
-
   -- a search that goes on at q
-  module _ {q : ℕ} (e : x ≡ Past (Some q)) where
-    pub within_text : q ≤ length s
-    within_text = (past e).1
-
-    pub on : (y : Search) → Searched s q y → Searched s p y × (left s y < left s x)
-    unfolding Searched
-    on Twice k = ((past e).2 true k, rw e (omega arith))
-    on (Past None) k = ((past e).2 false k, rw e (omega arith))
-    on (Past (Some z)) k = ((omega (arith, (past e).0, k.0), k.1, λ r f. (past e).2 r (k.2 r f)), rw e (omega (arith, k.0, k.1)))
+  pub unfinished : {q : ℕ} → x ≡ Unfinished q → (p < q) × (q ≤ length s) × ((r : Bool) → TwiceFrom s q r → TwiceFrom s p r)
+  unfolding Searched
+  unfinished e = searched e

@@ -24,7 +24,7 @@ use Rattle.json_rules.specs.declared.Place.{Place}
 use Rattle.json_members.specs.declared.steps.Item.{Item}
 use Rattle.json_members.specs.declared.steps.Entry.{Entry}
 use Rattle.json_rules.specs.Answers.{place}
-use Rattle.json_members.specs.Steps.{first_in, top_in, top_members, first_member, start_in, next_in, item_by, no_item, item_in, item_at, entry_by, no_entry, entry_in, entry_at}
+use Rattle.json_members.specs.Steps.{first_in, top_in, top_members, first_member, start_in, next_in, item_by, item_in, item_at, entry_by, entry_in, entry_at}
 
 pos_byte : (s : List ℕ) (i : ℕ) → i < length s → pos s (get_or s i 0 ∷ drop (i + 1) s) ≡ i
 pos_byte s i h = ap (pos s) (sym (at_byte s i h)) ∙ pos_drop s i (omega arith)
@@ -103,14 +103,13 @@ module _ (b f e : ℕ) where
     place_other = ap₂ place (omega (arith, no_margin)) (omega (arith, no_margin))
 
 pub item_made : (s : List ℕ) (k : Kind) (f e : ℕ) (y : List ℕ) {x : Place} {j : Kind} {n : End} → x ≡ place (f + margin k) (e - margin k) → j ≡ k → n ≡ next_in s y
-    → ◌≡◌ {A = Item} (record { value = x; kind = j; next = n }) (item_by s k f e y)
+    → ◌≡◌ {A = Item} (record { value = record { kind = j; place = x }; next = n }) (item_by s k f e y)
 unfolding item_by
 item_made s k f e y a b c = cc
 
 -- what is read of a value that stands from f to e
 item_of : (s : List ℕ) (f e : ℕ) (v : LValue) → f < e → e ≤ length s → kind_of (plain v) ≡ kind_by (value_lead (get_or s f 0))
-    → item_in s (got (item (drop f s) (drop e s) v) (ws (drop e s))) ≡ item_by s (kind_by (value_lead (get_or s f 0))) f e (ws (drop e s))
-unfolding item_in
+    → item_by s (kind_of (plain v)) (pos s (drop f s)) (pos s (drop e s)) (ws (drop e s)) ≡ item_by s (kind_by (value_lead (get_or s f 0))) f e (ws (drop e s))
 item_of s f e v h l k = cc (k, pos_drop s f (omega arith), pos_drop s e l)
 
 -- AN ELEMENT
@@ -121,17 +120,18 @@ module _ {s : List ℕ} {p f : ℕ} (d : ℕ) (w : SkipsTo s p f) where
   unfolding item_at
   from_first c = ap (item_in s) (placed_at d w (length s) ∙ ap (placed_item (drop f s)) c)
 
-  pub item_is : {e : ℕ} {r : Item} → Some e ≡ bare_end s f d → r ≡ item_by s (kind_by (value_lead (get_or s f 0))) f e (ws (drop e s)) → r ≡ item_at s p d
+  pub item_is : {e : ℕ} {r : Item} → Some e ≡ bare_end s f d → r ≡ item_by s (kind_by (value_lead (get_or s f 0))) f e (ws (drop e s)) → Some r ≡ item_at s p d
+  unfolding item_in
   item_is {e} x c =
       let k = bare_ends d x in
       let b = bounds k in
       let h : f < length s = omega (arith, b.0, b.1) in
       let g = given k (length s) (omega (arith, length-drop f s)) in
-      c ∙ sym (from_first g.1 ∙ item_of s f e g.0 (omega (arith, b.0)) b.1 (trimmed_kind (length s) d (get_or s f 0) (drop (f + 1) s) (ap (read_trimmed (length s) d) (sym (at_byte s f h)) ∙ g.1)))
+      ap Some (c ∙ sym (item_of s f e g.0 (omega (arith, b.0)) b.1 (trimmed_kind (length s) d (get_or s f 0) (drop (f + 1) s) (ap (read_trimmed (length s) d) (sym (at_byte s f h)) ∙ g.1)))) ∙ sym (from_first g.1)
 
-  pub no_item_lem : {r : Item} → None ≡ bare_end s f d → r ≡ no_item → r ≡ item_at s p d
+  pub item_none : None ≡ bare_end s f d → None ≡ item_at s p d
   unfolding item_in
-  no_item_lem x c = c ∙ sym (from_first (none (bare_ends d x) (length s) (omega (arith, length-drop f s))))
+  item_none x = sym (from_first (none (bare_ends d x) (length s) (omega (arith, length-drop f s))))
 
 -- A MEMBER
 
@@ -143,18 +143,18 @@ module _ (s : List ℕ) (p d : ℕ) (h : p < length s) where
   abbrev named_from : Got (List ℕ) → Got LMember
   named_from g = then g (λ cs r. expect 0x3A (ws r) (λ x. over (named (drop (p + 1) s) (0x22 ∷ r) cs) (read_value (length s) d x)))
 
-  pub no_quote : {r : Entry} → (get_or s p 0 ≡ 0x22 → ⊥) → r ≡ no_entry → r ≡ entry_at s p d
+  pub no_quote : (get_or s p 0 ≡ 0x22 → ⊥) → None ≡ entry_at s p d
   unfolding entry_at entry_in
-  no_quote b c = c ∙ sym (ap (λ (x : List ℕ). entry_in s (read_member (length s) d x)) (at_byte s p h) ∙ rw (ne_eqb (get_or s p 0) 0x22 b))
+  no_quote b = sym (ap (λ (x : List ℕ). entry_in s (read_member (length s) d x)) (at_byte s p h) ∙ rw (ne_eqb (get_or s p 0) 0x22 b))
 
   module _ (b : get_or s p 0 ≡ 0x22) where
     quoted : {g : Got (List ℕ)} → read_chars (length s) (drop (p + 1) s) ≡ g → entry_at s p d ≡ entry_in s (named_from g)
     unfolding entry_at
     quoted c = ap (λ (x : List ℕ). entry_in s (read_member (length s) d x)) (at_byte s p h) ∙ rw (eq-eqb (get_or s p 0) 0x22 b) (ap (λ (g : Got (List ℕ)). entry_in s (named_from g)) c)
 
-    pub no_name : {r : Entry} → StringEnds s (p + 1) None → r ≡ no_entry → r ≡ entry_at s p d
+    pub no_name : StringEnds s (p + 1) None → None ≡ entry_at s p d
     unfolding StringEnds entry_in
-    no_name k c = c ∙ sym (quoted (ends_bad s (p + 1) (read_chars (length s) (drop (p + 1) s)) (k (length s) (omega (arith, length-drop (p + 1) s)))))
+    no_name k = sym (quoted (ends_bad s (p + 1) (read_chars (length s) (drop (p + 1) s)) (k (length s) (omega (arith, length-drop (p + 1) s)))))
 
     module _ (q : ℕ) (k : StringEnds s (p + 1) (Some q)) where
       -- the value after the name
@@ -173,12 +173,12 @@ module _ (s : List ℕ) (p d : ℕ) (h : p < length s) where
       name_place = ap₂ place (sym (pos_drop s (p + 1) (omega arith))) (omega (arith, name_end_lem.0, name_end_lem.1, length-drop q s))
 
       pub entry_is : {f e : ℕ} {i : Item} → Some (f, e) ≡ value_span s q d → i ≡ item_by s (kind_by (value_lead (get_or s f 0))) f e (ws (drop e s))
-          → ◌≡◌ {A = Entry} (record { name = place (p + 1) (q - 1); value = i.value; kind = i.kind; next = i.next }) (entry_at s p d)
+          → Some (record { name = place (p + 1) (q - 1); value = i.value; next = i.next }) ≡ entry_at s p d
       unfolding entry_in entry_by
       entry_is {f} {e} w c =
           let r = span_between s q d (length s) (omega (arith, length-drop q s)) w in
-          ap₂ entry_by name_place (c ∙ sym (item_of s f e r.value r.some r.within r.kind)) ∙ sym (valued r.reads).1
+          ap₂ (λ (x : Place) (j : Item). Some (entry_by x j)) name_place (c ∙ sym (item_of s f e r.value r.some r.within r.kind)) ∙ sym (valued r.reads).1
 
-      pub no_value : {r : Entry} → None ≡ value_span s q d → r ≡ no_entry → r ≡ entry_at s p d
+      pub no_value : None ≡ value_span s q d → None ≡ entry_at s p d
       unfolding entry_in
-      no_value w c = c ∙ sym (valued (span_none s q d (length s) (omega (arith, length-drop q s)) w)).1
+      no_value w = sym (valued (span_none s q d (length s) (omega (arith, length-drop q s)) w)).1

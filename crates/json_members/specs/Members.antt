@@ -93,10 +93,10 @@ pub record NameIs (s : List ℕ) (x : Place) (f t n : List ℕ) : Type 0 where
 pub record ItemAt (s : List ℕ) (p d : ℕ) (r : Item) : Type 0 where
   pub later : (q : ℕ) → r.next ≡ Some q → (p < q) × (q < length s)
   pub is : (a b : List ℕ) (v : LValue) (vs : LItems) → ElementsAt s p d (icons (item a b v) vs)
-      → ValueIs s d r.kind r.value a b v × ElementsFrom s d r.next vs
+      → ValueIs s d r.value.kind r.value.place a b v × ElementsFrom s d r.next vs
 
 -- r is the member at p, likewise
 pub record EntryAt (s : List ℕ) (p d : ℕ) (r : Entry) : Type 0 where
   pub later : (q : ℕ) → r.next ≡ Some q → (p < q) × (q < length s)
   pub is : (f t n a b : List ℕ) (v : LValue) (ms : LMembers) → MembersAt s p d (lcons (named f t n (item a b v)) ms)
-      → NameIs s r.name f t n × ValueIs s d r.kind r.value a b v × MembersFrom s d r.next ms
+      → NameIs s r.name f t n × ValueIs s d r.value.kind r.value.place a b v × MembersFrom s d r.next ms

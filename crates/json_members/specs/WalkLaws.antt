@@ -8,13 +8,12 @@ use Rattle.common.specs.Same.{same}
 use Rattle.json_grammar_rules.specs.Value.{LValue, LItem, LMembers, item, named, lnil, lcons}
 use Rattle.json_string.specs.Ends.{End}
 use Rattle.json_string.specs.WordLaws.{is_ascii, text_word}
-use Rattle.json_members.specs.declared.slots.Slot.{Slot}
-use Rattle.json_members.specs.declared.slots.Slot.TheVariants.{Absent, Is}
 use Rattle.json_members.specs.declared.steps.Entry.{Entry}
 use Rattle.json_members.specs.Members.{MembersAt, MembersFrom, EntryAt, ValueIs}
 use Rattle.json_members.specs.MemberLaws.{no_members}
-use Rattle.json_members.specs.StepLaws.{first_name}
-use Rattle.json_members.specs.Slots.{item_of, Shows, ShowsAll, NoneKnown, taken_by, taken_at, Noted, Walked, KnownFrom}
+use Rattle.json_members.specs.Steps.{entry_at}
+use Rattle.json_members.specs.StepLaws.{first_name, no_entry}
+use Rattle.json_members.specs.Slots.{Slot, item_of, Shows, ShowsAll, NoneKnown, taken_by, taken_at, Noted, Walked, KnownFrom}
 
 -- ONE NAME
 
@@ -32,18 +31,18 @@ pub record Passed (h : List ℕ) (d : ℕ) (n : List ℕ) (s : Slot) (rest ms : 
   pub shows : Shows h d s shown
   pub is : item_of n ms ≡ first_of shown (item_of n rest)
 
-module _ {h : List ℕ} {d : ℕ} (m : Entry) {a b : List ℕ} {v : LValue} (value : ValueIs h d m.kind m.value a b v) {n f t c : List ℕ} {rest ms : LMembers} where
+module _ {h : List ℕ} {d : ℕ} (m : Entry) {a b : List ℕ} {v : LValue} (value : ValueIs h d m.value.kind m.value.place a b v) {n f t c : List ℕ} {rest ms : LMembers} where
   pass : (s : Slot) → Passed h d n s (lcons (named f t c (item a b v)) rest) ms → Passed h d n (taken_by (same c n) m s) rest ms
   unfolding item_of
   pass s p = go s p.shown p.shows (same c n) p.is
     where
       go : (s : Slot) (o : Option LItem) → Shows h d s o → (q : Bool) → item_of n ms ≡ first_of o (cond q (some (item a b v)) (item_of n rest))
           → Passed h d n (taken_by q m s) rest ms
-      go (Is k x) (some i) w q e = record { shown = some i; shows = w; is = e }
-      go (Is k x) none w q e = absurd w.has
-      go Absent (some i) w q e = absurd w.has
-      go Absent none w true e = record { shown = some (item a b v); shows = record { has = value }; is = e }
-      go Absent none w false e = record { shown = none; shows = record { has = tt }; is = e }
+      go (Some x) (some i) w q e = record { shown = some i; shows = w; is = e }
+      go (Some x) none w q e = absurd w.has
+      go None (some i) w q e = absurd w.has
+      go None none w true e = record { shown = some (item a b v); shows = record { has = value }; is = e }
+      go None none w false e = record { shown = none; shows = record { has = tt }; is = e }
 
 -- ALL NAMES
 
@@ -62,6 +61,10 @@ module _ {W S : Type 0} {name : W → List ℕ} {slot : W → S → Slot} {h : L
   walk_start {d = d} e = record {
     is = λ ms at. (ms, at, λ w. subst (λ (s : Slot). Passed h d (name w) s ms ms) (sym (e w)) (record { shown = none; shows = record { has = tt }; is = refl }));
   }
+
+  -- where nothing is read, no members stand
+  pub walk_nothing : {from p d : ℕ} {m : S} → Walking name slot h from p d m → None ≡ entry_at h p d → Walked name slot h from d m
+  walk_nothing {p = p} {d = d} g e = record { is = λ ms at. let r = g.is ms at in no_entry h p d e r.0 r.1 }
 
   module _ {from p d : ℕ} {m : Entry} {old new : S} (g : Walking name slot h from p d old) (en : EntryAt h p d m) (nt : Noted name slot h p m old new) where
     step : (ms : LMembers) → MembersAt h from d ms
