@@ -14,11 +14,14 @@ pub fn zero(b: &mut [u8])
 }
 
 // Copies src into dst from at on. Rules out one byte copied over and over, and the first byte left out.
+// No `copy_from_slice`: it compares addresses as numbers, which differ in width between processors.
 pub fn copy_at(dst: &mut [u8], at: usize, src: &[u8])
     requires { at + length src.now ≤ length dst.old }
     ensures { dst.new ≡ paste dst.old at src.now (length src.now) }
 {
-    dst[at..at + src.len()].copy_from_slice(src);
+    for (i, byte) in src.iter().enumerate() {
+        dst[at + i] = *byte;
+    }
 }
 
 // A byte as a wider number. Rules out one number for every byte, and half the byte.
