@@ -106,6 +106,7 @@ FORMS = {
         "offset": rf"(%r\d+) = getelementptr (?:inbounds nuw )?i8, ptr (%[ra]\d+), i64 ({VALUE})",
         "copy": r"call void @llvm\.memmove\.p0\.p0\.i64\(ptr (%[ra]\d+), ptr (%[ra]\d+), i64 (\d+), i1 false\)",
         "fill": r"call void @llvm\.memset\.p0\.i64\(ptr (%[ra]\d+), i8 (\d+), i64 (\d+), i1 false\)",
+        "trap": r"call void @llvm\.trap\(\)",
         "call": rf"(?:(%r\d+) = )?call ({RESULT}) ({NAME})\((.*)\)",
         "part": rf"(%r\d+) = extractvalue ({PAIR}) (%r\d+), ([01])",
         "binary": rf"%r\d+ = {BINARY}(?: nuw| nsw| exact)* {INT} {VALUE}, {VALUE}",
@@ -125,12 +126,13 @@ EMPTY = re.compile(r"(@static\.\d+) = private unnamed_addr constant \[0 x i8\] z
 OTHER = re.compile(
     r'|;.*|source_filename = "rattle"|!llvm\.ident = !\{!\d+\}|!\d+ = !\{(?:|i8 0, i8 2|!"rattle logic=[0-9a-f]+")\}'
 )
-# What fills and copies memory, and what the compiler may know of it.
-INTRINSICS = {
-    "declare void @llvm.memmove.p0.p0.i64(ptr writeonly captures(none), ptr readonly captures(none), i64, i1 immarg)": "readwrite",
-    "declare void @llvm.memset.p0.i64(ptr writeonly captures(none), i8, i64, i1 immarg)": "write",
-}
 KNOWN = "{{ nocallback nofree nounwind willreturn memory(argmem: {}) }}"
+# What fills and copies memory, what ends a program where it is proved never to come, and what the compiler may know of it.
+INTRINSICS = {
+    "declare void @llvm.memmove.p0.p0.i64(ptr writeonly captures(none), ptr readonly captures(none), i64, i1 immarg)": KNOWN.format("readwrite"),
+    "declare void @llvm.memset.p0.i64(ptr writeonly captures(none), i8, i64, i1 immarg)": KNOWN.format("write"),
+    "declare void @llvm.trap()": "{ cold noreturn nounwind memory(inaccessiblemem: write) }",
+}
 
 
 def parts(pattern, text, line):
@@ -198,7 +200,7 @@ class Module:
             elif match := EMPTY.fullmatch(line):
                 self.empty[match[1]] = (self.new(match[1]), 0)
             elif (match := re.fullmatch(r"(declare .*) #(\d)", line)) and match[1] in INTRINSICS:
-                declared[match[2]] = KNOWN.format(INTRINSICS[match[1]])
+                declared[match[2]] = INTRINSICS[match[1]]
             elif match := re.fullmatch(r"attributes #(\d) = (.*)", line):
                 if declared.get(match[1]) != match[2]:
                     raise Refused(f"line {number_}: another attributes than the known ones: {line}")
@@ -481,6 +483,9 @@ def self_test():
         ("a function from elsewhere", "declare ptr @malloc(i64)\n" + plain, "a form that isn't known"),
         ("a copy is known", f"{copying} #2\n" + plain + f"attributes #2 = {KNOWN.format('readwrite')}\n", None),
         ("it only writes", f"{copying} #2\n" + plain + f"attributes #2 = {KNOWN.format('write')}\n", "another attributes"),
+        ("the end of a program is known", "declare void @llvm.trap() #3\n" + plain.replace("%a1, 7", "%a1, 7\n  call void @llvm.trap()")
+         + "attributes #3 = { cold noreturn nounwind memory(inaccessiblemem: write) }\n", None),
+        ("it may return", "declare void @llvm.trap() #3\n" + plain + "attributes #3 = { cold nounwind memory(inaccessiblemem: write) }\n", "another attributes"),
         ("attributes of nothing", plain + f"attributes #2 = {KNOWN.format('write')}\n", "another attributes"),
     ]
     for name, text, said in texts:
