@@ -1,5 +1,5 @@
 -- `sha256::digest::digest` meets its contract.
-use Rattle.std.proofs.Common.{◌≡◌, ◌+◌, ◌-◌, ◌*◌, ◌++◌, List, ℕ, length, refl, ap, ap₂, sym, ◌∙◌, arith, add-one, suc-mul, take_all}
+use Rattle.std.proofs.Common.{◌≡◌, ◌+◌, ◌-◌, ◌*◌, ◌++◌, List, ℕ, length, refl, ap, ap₂, ◌∙◌, arith, add-one, suc-mul}
 use Rattle.std.proofs.lemmas.Slice.{take-put_mid}
 use Rattle.std.proofs.lemmas.Grind.{common_steps}
 use Rattle.common.specs.BigEndianLaws.{length_big_endian}
@@ -22,8 +22,3 @@ loop-i-preserved c =
       size = grind (arith, common_steps);
       words = rw (add-one, suc-mul) (take-put_mid (i * 4) (i * 4 + 4 - i * 4) d c.copy_from_slice.new.self (i * 4 + 4) (omega arith) (omega arith) ∙ ap₂ (λ (a b : List ℕ). a ++ b) c.loop-i.invariant.words e);
     }
-
-pub returns : goal.returns
-returns c =
-    let e : c.loop-i.i ≡ 8 = omega arith in
-    sym (take_all 32 c.loop-i.digest (omega arith)) ∙ (rw e at c.loop-i.invariant.words)
