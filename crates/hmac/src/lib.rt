@@ -14,10 +14,10 @@ fn key_block(key: &[u8]) -> [u8; 64]
 {
     let mut block = [0u8; 64];
     if 64 < key.len() {
-        common::copy_at(&mut block, 0, &sha256::sha256(key));
+        block[..32].copy_from_slice(&sha256::sha256(key));
         return block;
     }
-    common::copy_at(&mut block, 0, key);
+    block[..key.len()].copy_from_slice(key);
     block
 }
 

@@ -11,17 +11,15 @@ use jws_rules::Record;
 pub fn payload(details: Record, buffer: &[u8]) -> &[u8]
     ensures { result.now ≡ payload details buffer.now }
 {
-    let n = part_length(details.payload_length, buffer.len());
-    &buffer[0..n]
+    &buffer[..part_length(details.payload_length, buffer.len())]
 }
 
 // How long that part is, by the record's length and the buffer's.
 // Rules out a payload that fills the buffer refused, and the buffer's length for a payload that doesn't fit.
+#[tactic(auto, unfolding(jws_rules::specs::Outcomes::part_length))]
 pub fn part_length(asked: usize, room: usize) -> usize
     ensures { result ≡ part_length asked room }
 {
-    if asked <= room {
-        return asked;
-    }
-    0
+    // 0 and no `Option`: the call from C promises an empty part
+    if asked <= room { asked } else { 0 }
 }

@@ -9,7 +9,7 @@ use Rattle.std.proofs.Math.ListN.{length, take, drop, length-drop}
 use Rattle.std.proofs.lemmas.List.{take-append-le}
 use Rattle.std.proofs.Math.Seq.{drop-append-le, drop-append-add, length-take-le}
 use Rattle.common.specs.Laid.{part_from}
-use Rattle.sha2_rules.specs.Parameters.{Parameters, H0}
+use Rattle.sha2_rules.specs.Parameters.{Parameters}
 use Rattle.sha2_rules.specs.Compression.{compressed}
 use Rattle.sha2_rules.specs.Hash.{block_bytes, padding, padded, hash_value, hash, hash_after, word_bytes}
 

@@ -21,7 +21,7 @@ module _ (P : Parameters) where
   abbrev pub last_blocks : List ℕ → ℕ
   last_blocks m = (length m - whole m + (block_bytes P + length_bytes P)) / block_bytes P
 
-  length_rest : (m : List ℕ) → length (rest m) ≡ length m - whole m
+  pub length_rest : (m : List ℕ) → length (rest m) ≡ length m - whole m
   length_rest m = ap length (part_from (whole m) m) ∙ length-drop (whole m) m
 
   module _ (z : zero < block_bytes P) where

@@ -1,5 +1,5 @@
 -- `sha256::Hasher::absorb_blocks` meets its contract.
-use Rattle.std.proofs.Common.{◌≡◌, ◌/◌, length, refl, ap, ◌∙◌, add-one, arith}
+use Rattle.std.proofs.Common.{refl, ap, ◌∙◌, add-one, arith}
 use Rattle.sha2_rules.specs.Parameters.{sha_256}
 use Rattle.sha2_rules.specs.Compression.{compressed}
 use Rattle.sha2_rules.specs.Hash.{hash_value}
@@ -17,8 +17,3 @@ loop-block-preserved c =
     let i = c.loop-block.block-index in
     let block = part 64 i m c.as_chunks.ensures.front (omega arith) in
     rw add-one (next_block sha_256 c.args.self.now.value m i c.loop-block.invariant (c.compress-next.ensures ∙ ap (compressed sha_256 c.loop-block.self.value) block))
-
-pub returns : goal.returns
-returns c =
-    let e : c.loop-block.block-index ≡ length c.args.m.now / 64 = omega arith in
-    rw e at c.loop-block.invariant

@@ -1,5 +1,5 @@
 -- `sha256::Hasher::absorb_runs` meets its contract.
-use Rattle.std.proofs.Common.{◌≡◌, List, ℕ, ◌+◌, ◌-◌, ◌*◌, ◌/◌, length, refl, ap, ◌∙◌, arith}
+use Rattle.std.proofs.Common.{◌≡◌, List, ℕ, ◌+◌, ◌-◌, ◌*◌, refl, ap, ◌∙◌, arith}
 use Rattle.sha2_rules.specs.Parameters.{sha_256}
 use Rattle.sha2_rules.specs.Hash.{hash_value}
 use Rattle.sha2_rules.proofs.BlockLaws.{more_blocks}
@@ -20,8 +20,3 @@ loop-run-preserved c =
     rw next
     (more_blocks sha_256 c.args.self.now.value m (8 * i) 8 (i * 512) (omega arith) (omega arith) c.loop-run.invariant
     (c.compress_eight-next.ensures.value ∙ ap (λ (b : List ℕ). hash_value sha_256 c.loop-run.self.value b 8) (run ∙ rw size)))
-
-pub returns : goal.returns
-returns c =
-    let e : 8 * c.loop-run.run-index ≡ length c.args.m.now / 64 = omega arith in
-    rw e at c.loop-run.invariant

