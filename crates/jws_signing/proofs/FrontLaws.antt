@@ -11,9 +11,8 @@ use Rattle.common.specs.Buffer.{laid, Front}
 use Rattle.common.specs.Laid.{part_from, put_from, front_is}
 use Rattle.base64url_rules.specs.Base64url.{encode, encoded_length}
 use Rattle.base64url_rules.proofs.LengthLaws.{length_encode}
-use Rattle.base64url_rules.specs.Outcome.{Encoding, encoded_to, encoding}
+use Rattle.base64url_rules.specs.Outcome.{Encoded, Encoding, encoded_to, encoding}
 use Rattle.base64url_rules.proofs.OutcomeLaws.{roomy}
-use Rattle.base64url_rules.specs.declared.Encoded.{Encoded}
 use Rattle.hmac.specs.Hmac.{HMACSHA256}
 use Rattle.jws_rules.specs.Segments.{period, ◌dot◌}
 use Rattle.jws_rules.proofs.SegmentLaws.{length_dot}

@@ -2,7 +2,6 @@
 ghost use Rattle.std.specs.Prelude.{◌≡◌, ◌+◌, ◌≤◌, length, take};
 ghost use Rattle.base64url_rules.specs.Base64url.{encode};
 ghost use Rattle.common.specs.Buffer.{laid, Front};
-ghost use Rattle.base64url_rules.proofs.Tables.{characters};
 ghost use Rattle.json_rules.specs.Rules.{longest};
 ghost use Rattle.jws_rules.specs.Calls.{sign_call};
 ghost use Rattle.jws_rules.specs.Segments.{◌dot◌};
@@ -11,6 +10,7 @@ ghost use Rattle.jws_rules.specs.Tests.{signed};
 ghost use Rattle.jws_signing.specs.Written.{Written, unsigned_result, finished};
 
 use answers::{BUFFER_TOO_SHORT, DONE, TOKEN_TOO_LONG};
+use base64url_encoding::{Alphabet, encode_with, encoded_len};
 use jose_rules::Decision;
 use jws_rules::{Signed, TOKEN_MOST};
 
@@ -18,27 +18,22 @@ use jws_rules::{Signed, TOKEN_MOST};
 const REST: usize = 45;
 
 // A further segment: a period at `at`, and then the text of the bytes. The answer is the place after it.
-fn segment(alphabet: &[u8; 64], bytes: &[u8], token: &mut [u8], at: usize) -> usize
-    requires { (alphabet.now ≡ characters) × (at + 1 + length (encode bytes.now) ≤ length token.old) }
+fn segment(alphabet: &Alphabet, bytes: &[u8], token: &mut [u8], at: usize) -> usize
+    requires { at + 1 + length (encode bytes.now) ≤ length token.old }
     ensures { Front (take at token.old dot encode bytes.now) token.old result token.new }
 {
     token[at] = b'.';
-    base64url_encoding::encode_with(alphabet, bytes, &mut token[at + 1..]);
-    at + 1 + base64url_encoding::encoded_len(bytes)
+    encode_with(alphabet, bytes, &mut token[at + 1..]);
+    at + 1 + encoded_len(bytes)
 }
 
 // What the MAC is taken of, at the buffer's front (the JWS Signing Input, RFC 7515 section 2). The answer is its length.
-fn signing_input(alphabet: &[u8; 64], header: &[u8], payload: &[u8], token: &mut [u8]) -> usize
-    requires { (alphabet.now ≡ characters) × (length (encode header.now) + 1 + length (encode payload.now) ≤ length token.old) }
+fn signing_input(alphabet: &Alphabet, header: &[u8], payload: &[u8], token: &mut [u8]) -> usize
+    requires { length (encode header.now) + 1 + length (encode payload.now) ≤ length token.old }
     ensures { Front (encode header.now dot encode payload.now) token.old result token.new }
 {
-    base64url_encoding::encode_with(alphabet, header, token);
-    segment(
-        alphabet,
-        payload,
-        token,
-        base64url_encoding::encoded_len(header),
-    )
+    encode_with(alphabet, header, token);
+    segment(alphabet, payload, token, encoded_len(header))
 }
 
 // Writes the token at the front of a buffer that has room for it. Each byte is written once, and the MAC is taken of what stands there.
@@ -46,7 +41,7 @@ fn compose(secret: &[u8], header: &[u8], payload: &[u8], token: &mut [u8])
     requires { finished_length header.now payload.now ≤ length token.old }
     ensures { token.new ≡ laid (token_of secret.now header.now payload.now) token.old }
 {
-    let alphabet = base64url_encoding::alphabet();
+    let alphabet = Alphabet::new();
     let n = signing_input(&alphabet, header, payload, token);
     let mac = hmac::hmac_sha256(secret, &token[0..n]);
     segment(&alphabet, &mac, token, n);
@@ -69,9 +64,7 @@ fn finish(secret: &[u8], header: &[u8], payload: &[u8], token: &mut [u8]) -> Sig
     if TOKEN_MOST < payload.len() {
         return refusal(TOKEN_TOO_LONG);
     }
-    let n = base64url_encoding::encoded_len(header)
-        + base64url_encoding::encoded_len(payload)
-        + REST;
+    let n = encoded_len(header) + encoded_len(payload) + REST;
     if TOKEN_MOST < n {
         return refusal(TOKEN_TOO_LONG);
     }

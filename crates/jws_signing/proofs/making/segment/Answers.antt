@@ -20,4 +20,4 @@ shape_of-token c = c.token-1.given.1 ∙ simp length-set
 
 pub returns : goal.returns
 returns c =
-    segment_front c.args.bytes.now c.args.token.now c.args.at c.requires.1 c.encode_with.ensures c.encoded_len.ensures
+    segment_front c.args.bytes.now c.args.token.now c.args.at c.requires c.encode_with.ensures c.encoded_len.ensures

@@ -7,10 +7,10 @@ use Rattle.jws_signing.proofs.making.signing_input.Goals as goal
 
 pub segment-requires : goal.segment-requires
 segment-requires c =
-    (c.requires.0, omega (arith, length_encode c.args.header.now, c.encode_with.auto))
+    omega (arith, length_encode c.args.header.now, c.encode_with.auto)
 
 pub returns : goal.returns
 returns c =
     front_more (encode c.args.header.now) (encode c.args.payload.now) c.args.token.now
-    (text_front c.args.header.now c.args.token.now (omega (arith, c.requires.1)) c.encode_with.ensures c.encoded_len.ensures)
+    (text_front c.args.header.now c.args.token.now (omega arith) c.encode_with.ensures c.encoded_len.ensures)
     c.segment.ensures
