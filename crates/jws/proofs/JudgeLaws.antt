@@ -1,6 +1,6 @@
 -- Laws of a token's judgement: what each phase of the code leads to.
 use mathlib.Core.Path.{◌≡◌, refl, sym, ap, ◌∙◌}
-use mathlib.Core.Bool.{Bool, true, false, not, ◌||◌, cond}
+use mathlib.Core.Bool.{Bool, true, false, not, ◌&&◌, ◌||◌, cond}
 use mathlib.Core.List.{List, [], ◌∷◌}
 use Prim.Native.Nat.{ℕ, ◌+◌, ◌-◌, ◌≤◌, ◌<◌}
 use native.Mathlib.Nat.{sub-zero}
@@ -66,42 +66,42 @@ module _ (q : VerifyCall) {hb pb : List ℕ} {r : Verified} where
 
 -- RULES 4 TO 6
 
+-- a segment that isn't strict
+not_all : (a b c : Bool) → a && (b && c) ≡ false → not a || (not b || not c) ≡ true
+not_all true true true e = sym e
+not_all true true false e = refl
+not_all true false c e = refl
+not_all false b c e = refl
+
+pub refused_strict : (q : VerifyCall) {hb pb : List ℕ} {r : Verified} → let t = q.token in
+    strict (front t) && (strict (front (back t)) && strict (back (back t))) ≡ false → r ≡ refusal_of 4 → Judged q hb pb (first (from_segments q)) r
+refused_strict q e f = let t = q.token in judged_refusal (rw (not_all (strict (front t)) (strict (front (back t))) (strict (back (back t))) e)) (λ z. omega arith) f
+
 -- the answer where each segment is strict, by the lengths
-module _ (o : Opened) (hr pr : ℕ) (strict : not o.header.strict || (not o.payload.strict || not o.signature.strict) ≡ false) where
-  pub header_long : longest < o.header.length → 5 ≡ first (tests_of o hr pr)
-  header_long h = rw (strict, lt-ltb longest o.header.length h)
+module _ (o : Opened) (hr pr : ℕ) where
+  pub header_long : longest < o.header → 5 ≡ first (tests_of o hr pr)
+  header_long h = rw (lt-ltb longest o.header h)
 
-  module _ (short : o.header.length ≤ longest) where
-    pub header_room_lem : hr < o.header.length → 6 ≡ first (tests_of o hr pr)
-    header_room_lem h = rw (strict, le-ltb longest o.header.length short, lt-ltb hr o.header.length h)
+  module _ (short : o.header ≤ longest) where
+    pub header_room_lem : hr < o.header → 6 ≡ first (tests_of o hr pr)
+    header_room_lem h = rw (le-ltb longest o.header short, lt-ltb hr o.header h)
 
-    pub payload_room_lem : o.header.length ≤ hr → pr < o.payload.length → 6 ≡ first (tests_of o hr pr)
-    payload_room_lem k h = rw (strict, le-ltb longest o.header.length short, le-ltb hr o.header.length k, lt-ltb pr o.payload.length h)
+    pub payload_room_lem : o.header ≤ hr → pr < o.payload → 6 ≡ first (tests_of o hr pr)
+    payload_room_lem k h = rw (le-ltb longest o.header short, le-ltb hr o.header k, lt-ltb pr o.payload h)
 
-    pub rooms : o.header.length ≤ hr → o.payload.length ≤ pr → 0 ≡ first (tests_of o hr pr)
-    rooms k h = rw (strict, le-ltb longest o.header.length short, le-ltb hr o.header.length k, le-ltb pr o.payload.length h)
+    pub rooms : o.header ≤ hr → o.payload ≤ pr → 0 ≡ first (tests_of o hr pr)
+    rooms k h = rw (le-ltb longest o.header short, le-ltb hr o.header k, le-ltb pr o.payload h)
 
 -- what the rules say where none refuses
 record Clear (x y z : List ℕ) (hr pr : ℕ) : Type 0 where
-  strict1 : strict x ≡ true
-  strict2 : strict y ≡ true
-  strict3 : strict z ≡ true
   header_fits : length (decode x) ≤ hr
   payload_fits : length (decode y) ≤ pr
 
 clear : (x y z : List ℕ) (hr pr : ℕ) → first (segment_tests x y z hr pr) ≡ 0 → Clear x y z hr pr
 clear x y z hr pr e =
     let pass = passed (segment_tests x y z hr pr) (all_pass (segment_tests x y z hr pr) refl e) in
-    let s = neither (not (strict x)) (not (strict y) || not (strict z)) (pass 4) in
-    let u = neither (not (strict y)) (not (strict z)) s.1 in
     let f = neither (ltb hr (length (decode x))) (ltb pr (length (decode y))) (pass 6) in
-    record {
-      strict1 = not-false (strict x) s.0;
-      strict2 = not-false (strict y) u.0;
-      strict3 = not-false (strict z) u.1;
-      header_fits = ltb-false _ _ f.0;
-      payload_fits = ltb-false _ _ f.1;
-    }
+    record { header_fits = ltb-false _ _ f.0; payload_fits = ltb-false _ _ f.1 }
 
 -- RULE 15
 
@@ -137,6 +137,15 @@ parts_open q {a = a} {b = b} p g =
     let e : front t ≡ take (a - 0) t = p.header ∙ ap (λ (n : ℕ). take n t) (sym (sub-zero a)) in
     rw (e, p.payload, p.signature ∙ sym (part_from (b + 1) t)) g
 
+-- .. and where one isn't strict, neither is one of the token's
+pub parts_not : (q : VerifyCall) {a b : ℕ} → let t = q.token in Places t a b
+    → strict (take (a - 0) t) && (strict (take (b - (a + 1)) (drop (a + 1) t)) && strict (take (length t - (b + 1)) (drop (b + 1) t))) ≡ false
+    → strict (front t) && (strict (front (back t)) && strict (back (back t))) ≡ false
+parts_not q {a} {b} p g =
+    let t = q.token in
+    let e : front t ≡ take (a - 0) t = p.header ∙ ap (λ (n : ℕ). take n t) (sym (sub-zero a)) in
+    rw (e, p.payload, p.signature ∙ sym (part_from (b + 1) t)) g
+
 module _ (q : VerifyCall) {hb pb : List ℕ} {o : Opened} (g : OpensToken q o hb pb) where
   abbrev t : List ℕ
   t = q.token
@@ -146,7 +155,7 @@ module _ (q : VerifyCall) {hb pb : List ℕ} {o : Opened} (g : OpensToken q o hb
 
   -- the answer by what was opened is that of the segments
   opened_answer : {a : ℕ} → a ≡ first (tests_of o q.header_room q.payload_room) → a ≡ segments
-  opened_answer e = e ∙ ap (λ (o : Opened). first (tests_of o q.header_room q.payload_room)) g.is
+  opened_answer e = rw (g.strict1, g.strict2, g.strict3, ← g.header, ← g.payload) e
 
   pub refused_segments : {a : ℕ} {r : Verified} → a ≡ first (tests_of o q.header_room q.payload_room) → (a ≡ 0 → ⊥) → r ≡ refusal_of a
       → Judged q hb pb (first (from_segments q)) r
@@ -163,11 +172,11 @@ module _ (q : VerifyCall) {hb pb : List ℕ} {o : Opened} (g : OpensToken q o hb
     is_clear = clear _ _ _ _ _ none_refused
 
     header : take (length (header_of t)) hb ≡ header_of t
-    header = g.header_front is_clear.strict1 is_clear.header_fits
+    header = g.header_front is_clear.header_fits
 
-    pub header_within : o.header.length ≤ length hb
+    pub header_within : o.header ≤ length hb
     header_within =
-        omega (arith, ap length header, ap (λ (o : Opened). o.header.length) g.is, length-take (length (header_of t)) hb)
+        omega (arith, ap length header, g.header, length-take (length (header_of t)) hb)
 
     -- the header's rules are next
     next : first (from_segments q) ≡ first (from_header q)
@@ -184,16 +193,16 @@ module _ (q : VerifyCall) {hb pb : List ℕ} {o : Opened} (g : OpensToken q o hb
         let d = with_chosen (header_of t) (terms_of q.table) e in
         let mac = HMACSHA256 (secret_of q.table (token_choice q)) (sent_input t) in
         let n : first (from_segments q) ≡ first (signature_tests q) = next ∙ first_after (jose_tests (header_of t) (terms_of q.table)) (signature_tests q) refl d.0 in
-        let payload = g.payload_front is_clear.strict2 is_clear.payload_fits in
-        let compare = compared (back (back t)) mac is_clear.strict3 (length_HMACSHA256 _ _) in
-        rw n (judged_mac (same (signature_of t) mac) header payload (f ∙ rw (d.1, g.is, compare)))
+        let payload = g.payload_front is_clear.payload_fits in
+        let compare = compared (back (back t)) mac (length_HMACSHA256 _ _) in
+        rw n (judged_mac (same (signature_of t) mac) header payload (f ∙ rw (d.1, g.header, g.payload, g.signature, compare)))
 
     -- by what the header decides
-    pub judged_header : {b c : ℕ} {r : Verified} → Places t c b → r ≡ decided_as (decision_with (take (o.header.length - 0) hb) (terms_of q.table)) o (take (b - 0) t) q.table
+    pub judged_header : {b c : ℕ} {r : Verified} → Places t c b → r ≡ decided_as (decision_with (take (o.header - 0) hb) (terms_of q.table)) o (take (b - 0) t) q.table
         → Judged q hb pb (first (from_segments q)) r
     judged_header {b = b} {r = r} p f =
-        let h : take (o.header.length - 0) hb ≡ header_of t =
-        ap (λ (n : ℕ). take n hb) (sub-zero o.header.length ∙ ap (λ (o : Opened). o.header.length) g.is) ∙ header in
+        let h : take (o.header - 0) hb ≡ header_of t =
+        ap (λ (n : ℕ). take n hb) (sub-zero o.header ∙ g.header) ∙ header in
         let m : take (b - 0) t ≡ sent_input t = ap (λ (n : ℕ). take n t) (sub-zero b) ∙ sym p.before in
         go (decision_with (header_of t) (terms_of q.table)) refl (f ∙ rw (h, m))
       where

@@ -1,5 +1,5 @@
 -- How a token is judged: what the inner functions answer, and what the fronts of the buffers hold then. q: what the call is lent.
-use Rattle.std.specs.Prelude.{◌≡◌, cond, List, ℕ, length, take}
+use Rattle.std.specs.Prelude.{◌≡◌, true, cond, List, ℕ, length, take}
 use Rattle.common.specs.First.{Test, first}
 use Rattle.hmac.specs.Hmac.{HMACSHA256}
 use Rattle.jose_rules.specs.declared.Choice.{Choice}
@@ -13,16 +13,16 @@ use Rattle.jws_rules.specs.Tests.{opened_tests, token_record}
 use Rattle.jws_segments.specs.declared.opening.Opened.{Opened}
 use Rattle.jws_segments.specs.Opening.{is_mac}
 
--- rules 4 to 6, by what was opened
+-- rules 4 to 6, by what was opened of segments that are strict
 abbrev pub tests_of : Opened → ℕ → ℕ → List Test
-tests_of o hr pr = opened_tests o.header.strict o.payload.strict o.signature.strict o.header.length o.payload.length hr pr
+tests_of o hr pr = opened_tests true true true o.header o.payload hr pr
 
 -- a refusal; and acceptance, by what was opened and chosen
 abbrev pub refusal_of : ℕ → Verified
 refusal_of n = record { answer = n; details = zero_record }
 
 abbrev pub acceptance_of : Opened → Choice → Verified
-acceptance_of o c = record { answer = 0; details = record { header_length = o.header.length; payload_length = o.payload.length; choice = c } }
+acceptance_of o c = record { answer = 0; details = record { header_length = o.header; payload_length = o.payload; choice = c } }
 
 -- by the MAC of m under the secret of the chosen key
 abbrev pub concluded : Opened → Choice → List ℕ → List ℕ → Verified

@@ -18,7 +18,7 @@ use jose::decide_with;
 use jose_rules::{Choice, Decision, Part};
 use json_rules::LONGEST;
 use jws_rules::{Record, TOKEN_MOST, Verified};
-use jws_segments::{Cut, Opened, is_mac, open_segments, split};
+use jws_segments::{Opened, is_mac, open_segments, split};
 
 // A refusal: its number, and a record of zeros.
 fn refusal(answer: u8) -> Verified
@@ -50,13 +50,11 @@ fn refusal(answer: u8) -> Verified
 fn acceptance(opened: Opened, choice: Choice) -> Verified
     ensures { result ≡ acceptance_of opened choice }
 {
-    let header = opened.header;
-    let payload = opened.payload;
     Verified {
         answer: DONE,
         details: Record {
-            header_length: header.length,
-            payload_length: payload.length,
+            header_length: opened.header,
+            payload_length: opened.payload,
             choice,
         },
     }
@@ -69,8 +67,7 @@ fn conclude(opened: Opened, choice: Choice, input: &[u8], table: &[u8]) -> Verif
 {
     let key = choice.key_index;
     let mac = hmac::hmac_sha256(keytable::secret(table, key), input);
-    let signature = opened.signature;
-    if is_mac(signature, &mac) {
+    if is_mac(opened.signature, &mac) {
         return acceptance(opened, choice);
     }
     refusal(SIGNATURE_DIFFERS)
@@ -87,29 +84,17 @@ fn judge_header(opened: Opened, header: &[u8], input: &[u8], table: &[u8]) -> Ve
     }
 }
 
-// Rules 4 to 6, of what was opened, with buffers of hr and pr bytes for header and payload.
-fn segments_answer(opened: Opened, hr: usize, pr: usize) -> u8
+// Rules 5 and 6, of what was opened, with buffers of hr and pr bytes for header and payload.
+fn lengths_answer(opened: Opened, hr: usize, pr: usize) -> u8
     ensures { result ≡ first (tests_of opened hr pr) }
 {
-    let header = opened.header;
-    let payload = opened.payload;
-    let signature = opened.signature;
-    if !header.strict {
-        return NOT_BASE64URL;
-    }
-    if !payload.strict {
-        return NOT_BASE64URL;
-    }
-    if !signature.strict {
-        return NOT_BASE64URL;
-    }
-    if LONGEST < header.length {
+    if LONGEST < opened.header {
         return HEADER_TOO_LONG;
     }
-    if hr < header.length {
+    if hr < opened.header {
         return BUFFER_TOO_SHORT;
     }
-    if pr < payload.length {
+    if pr < opened.payload {
         return BUFFER_TOO_SHORT;
     }
     DONE
@@ -127,20 +112,20 @@ fn judge_segments(
     requires { (bad_table table.now ≡ false) × Places token.now a b }
     ensures { JudgedBy from_segments (verify_call token.now table.now header.old payload.old) header.new payload.new result }
 {
-    let opened = open_segments(
+    let Some(opened) = open_segments(
         &token[0..a],
         &token[a + 1..b],
         &token[b + 1..],
         header,
         payload,
-    );
-    let answer = segments_answer(opened, header.len(), payload.len());
+    ) else {
+        return refusal(NOT_BASE64URL);
+    };
+    let answer = lengths_answer(opened, header.len(), payload.len());
     if answer != DONE {
         return refusal(answer);
     }
-    let segment = opened.header;
-    let n = segment.length;
-    judge_header(opened, &header[0..n], &token[0..b], table)
+    judge_header(opened, &header[0..opened.header], &token[0..b], table)
 }
 
 // Rules 1 to 15: the first that refuses, or acceptance.
@@ -153,7 +138,7 @@ pub(crate) fn judge(token: &[u8], table: &[u8], header: &mut [u8], payload: &mut
     if !keytable_check::good(table) {
         return refusal(BAD_TABLE);
     }
-    let Cut::At(a, b) = split(token) else {
+    let Some((a, b)) = split(token) else {
         return refusal(NOT_TWO_PERIODS);
     };
     judge_segments(token, a, b, table, header, payload)

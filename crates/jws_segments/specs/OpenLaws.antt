@@ -1,46 +1,38 @@
 -- Laws of the segments: what decoding leaves in the buffers.
-use Rattle.std.specs.Prelude.{◌≡◌, refl, Bool, true, false, ◌&&◌, List, ℕ, ◌≤◌, eqb, length, take, replicate}
-use Rattle.std.proofs.Common.{sym, ap, ◌∙◌, subst, append-nil, arith, eqb-true}
+use Rattle.std.specs.Prelude.{◌≡◌, refl, Bool, true, false, cond, ◌&&◌, List, ℕ, ◌≤◌, eqb, length, take, replicate, Option, Some, None}
+use Rattle.std.specs.Bool.{then_some}
+use Rattle.std.proofs.Common.{sym, ap, ◌∙◌, append-nil, arith, eqb-true}
 use Rattle.std.proofs.lemmas.Bool.{eqb-false}
 use Rattle.common.specs.Buffer.{laid}
 use Rattle.common.proofs.Decided.{test_false}
 use Rattle.common.specs.Laid.{take_laid}
 use Rattle.common.specs.Same.{same}
+use Rattle.common.specs.Truth.{both}
 use Rattle.common.proofs.SameLaws.{decides_same}
 use Rattle.base64url_rules.specs.Base64url.{decode, strict, decoded_length}
 use Rattle.base64url_rules.proofs.LengthLaws.{length_decode}
-use Rattle.base64url_rules.specs.Outcome.{Decoding, decoded_to, decoding}
+use Rattle.base64url_rules.specs.Outcome.{Decoded, Decoding, decoded_to, decoding}
 use Rattle.base64url_rules.proofs.OutcomeLaws.{Answered, written, faulty, short, judge, accepted}
-use Rattle.base64url_rules.specs.declared.Decoded.{Decoded}
-use Rattle.base64url_rules.specs.declared.Decoded.TheVariants.{Bytes, Fault, Short}
-use Rattle.jws_segments.specs.declared.segment.Segment.{Segment}
-use Rattle.jws_segments.specs.declared.signature.Signature.{Signature}
 use Rattle.jws_segments.specs.declared.opening.Opened.{Opened}
-use Rattle.jws_segments.specs.Opening.{segment_of, decoded_out, signature_in, is_mac, opened_of, Opening, opened_to, opening}
+use Rattle.jws_segments.specs.Opening.{segment_of, decoded_out, signature_in, is_mac, parts_of, opened_of, Opening, opened_to, opening}
 
 -- ONE SEGMENT
 
--- only a fault says that the text isn't strict
-abbrev pub strict_by : Decoded → Bool
-strict_by (Bytes n) = true
-strict_by (Fault place) = false
-strict_by Short = true
-
-strict_by_lem : (s out : List ℕ) {buffer : List ℕ} {d : Decoded} → decoded_to d buffer ≡ decoding s out → strict_by d ≡ strict s
-strict_by_lem s out e = go (judge s out e)
-  where
-    go : {buffer : List ℕ} {d : Decoded} → Answered s out d buffer → strict_by d ≡ strict s
-    go (written h k) = sym h
-    go (faulty h e) = sym h
-    go (short h k) = sym h
+-- the length, by the answer; k is that of a text whose bytes don't fit
+abbrev pub length_by : Decoded → ℕ → Option ℕ
+length_by (Decoded.Bytes n) k = Some n
+length_by (Decoded.Fault place) k = None
+length_by Decoded.Short k = Some k
 
 -- what decoding answers and leaves in the buffer, as the segment
-pub segment_is : (s out : List ℕ) {buffer : List ℕ} {d : Decoded} {b : Bool} {n : ℕ} → decoded_to d buffer ≡ decoding s out → strict_by d ≡ b → n ≡ decoded_length (length s)
-    → (◌≡◌ {A = Segment} (record { strict = b; length = n }) (segment_of s)) × (buffer ≡ decoded_out s out)
-segment_is s out {b = b} {n} e k f =
-    let strictly : b ≡ strict s = sym k ∙ strict_by_lem s out e in
-    let size : n ≡ length (decode s) = f ∙ sym (length_decode s) in
-    (rw (strictly, size), ap (λ (d : Decoding). d.buffer) e)
+pub segment_is : (s out : List ℕ) {buffer : List ℕ} (d : Decoded) (k : ℕ) → decoded_to d buffer ≡ decoding s out → k ≡ decoded_length (length s)
+    → (length_by d k ≡ segment_of s) × (buffer ≡ decoded_out s out)
+segment_is s out d k e f = (go (judge s out e), ap (λ (d : Decoding). d.buffer) e)
+  where
+    go : {buffer : List ℕ} {d : Decoded} → Answered s out d buffer → length_by d k ≡ segment_of s
+    go (written h l) = rw h
+    go (faulty h e) = rw h
+    go (short h l) = rw (h, f, length_decode s)
 
 -- a strict segment that fits stands at the buffer's front
 decoded_fits : (s out : List ℕ) → strict s ≡ true → length (decode s) ≤ length out → decoded_out s out ≡ laid (decode s) out
@@ -51,38 +43,88 @@ decoded_front s out h k = ap (take (length (decode s))) (decoded_fits s out h k)
 
 -- THE SIGNATURE
 
-pub signature_is : (z : List ℕ) {buffer : List ℕ} {s : Segment} → (s ≡ segment_of z) × (buffer ≡ decoded_out z (replicate 32 0))
-    → ◌≡◌ {A = Signature} (record { strict = s.strict; whole = eqb s.length 32; bytes = buffer }) (signature_in z)
-signature_is z (e, f) = rw (e, f)
-
 -- 32 bytes fill the buffer
-signature_bytes : (z : List ℕ) → strict z ≡ true → length (decode z) ≡ 32 → (signature_in z).bytes ≡ decode z
+signature_bytes : (z : List ℕ) → strict z ≡ true → length (decode z) ≡ 32 → decoded_out z (replicate 32 0) ≡ decode z
 signature_bytes z h e = decoded_fits z (replicate 32 0) h (omega arith) ∙ rw e (append-nil (decode z))
 
 -- a signature of 32 bytes is compared whole, and one of another length differs
-pub compared : (z mac : List ℕ) → strict z ≡ true → length mac ≡ 32 → is_mac (signature_in z) mac ≡ same (decode z) mac
-compared z mac h l = go (eqb (length (decode z)) 32) refl
+pub compared : (z mac : List ℕ) → length mac ≡ 32 → is_mac (signature_in z) mac ≡ same (decode z) mac
+compared z mac l = go (eqb (length (decode z)) 32) refl
   where
-    go : (w : Bool) → eqb (length (decode z)) 32 ≡ w → w && same (signature_in z).bytes mac ≡ same (decode z) mac
-    go true e = ap (λ (b : List ℕ). same b mac) (signature_bytes z h (eqb-true _ _ e))
+    go : (w : Bool) → eqb (length (decode z)) 32 ≡ w → is_mac (cond w (Some (decode z)) None) mac ≡ same (decode z) mac
+    go true e = refl
     go false e = sym (test_false (decides_same (decode z) mac) (λ d. eqb-false _ _ e (ap length d ∙ l)))
 
 -- THE THREE SEGMENTS
 
-pub opening_is : (x y z h p : List ℕ) {hb pb : List ℕ} {u v : Segment} {s : Signature}
-    → (u ≡ segment_of x) × (hb ≡ decoded_out x h) → (v ≡ segment_of y) × (pb ≡ decoded_out y p) → s ≡ signature_in z
-    → opened_to (record { header = u; payload = v; signature = s }) hb pb ≡ opening x y z h p
+-- what is opened, by the lengths of the segments that are strict, and the bytes of the third
+abbrev pub joined : Option ℕ → Option ℕ → Option ℕ → List ℕ → Option Opened
+joined (Some n) (Some m) (Some k) bytes = Some (record { header = n; payload = m; signature = then_some (eqb k 32) bytes })
+joined (Some n) (Some m) None bytes = None
+joined (Some n) None w bytes = None
+joined None v w bytes = None
+
+joined_is : (x y z : List ℕ) → joined (segment_of x) (segment_of y) (segment_of z) (decoded_out z (replicate 32 0)) ≡ opened_of x y z
+joined_is x y z = go (strict x) (strict y) (strict z) refl
+  where
+    signature : (t : Bool) → strict z ≡ true → eqb (length (decode z)) 32 ≡ t → then_some t (decoded_out z (replicate 32 0)) ≡ cond t (Some (decode z)) None
+    signature true h e = ap Some (signature_bytes z h (eqb-true (length (decode z)) 32 e))
+    signature false h e = refl
+
+    go : (a b c : Bool) → strict z ≡ c
+        → joined (cond a (Some (length (decode x))) None) (cond b (Some (length (decode y))) None) (cond c (Some (length (decode z))) None) (decoded_out z (replicate 32 0))
+        ≡ cond (a && (b && c)) (Some (parts_of x y z)) None
+    go true true true e = rw (signature (eqb (length (decode z)) 32) e refl)
+    go true true false e = refl
+    go true false c e = refl
+    go false b c e = refl
+
+pub opening_is : (x y z h p : List ℕ) {hb pb bytes : List ℕ} (u v w : Option ℕ)
+    → (u ≡ segment_of x) × (hb ≡ decoded_out x h) → (v ≡ segment_of y) × (pb ≡ decoded_out y p) → (w ≡ segment_of z) × (bytes ≡ decoded_out z (replicate 32 0))
+    → opened_to (joined u v w bytes) hb pb ≡ opening x y z h p
 unfolding opening
-opening_is x y z h p (e, i) (f, j) g = rw (e, f, g, i, j)
+opening_is x y z h p u v w (e, i) (f, j) (g, k) = rw (e, f, g, i, j, k) (ap (λ (o : Option Opened). opened_to o (decoded_out x h) (decoded_out y p)) (joined_is x y z))
 
 -- o is what was opened, hb and pb are the buffers then, of hr and pr bytes: what a caller goes by
 pub record Opens (x y z : List ℕ) (hr pr : ℕ) (o : Opened) (hb pb : List ℕ) : Type 0 where
-  pub is : o ≡ opened_of x y z
-  pub header_front : strict x ≡ true → length (decode x) ≤ hr → take (length (decode x)) hb ≡ decode x
-  pub payload_front : strict y ≡ true → length (decode y) ≤ pr → take (length (decode y)) pb ≡ decode y
+  pub strict1 : strict x ≡ true
+  pub strict2 : strict y ≡ true
+  pub strict3 : strict z ≡ true
+  pub header : o.header ≡ length (decode x)
+  pub payload : o.payload ≡ length (decode y)
+  pub signature : o.signature ≡ signature_in z
+  pub header_front : length (decode x) ≤ hr → take (length (decode x)) hb ≡ decode x
+  pub payload_front : length (decode y) ≤ pr → take (length (decode y)) pb ≡ decode y
 
-pub opens : (x y z h p : List ℕ) {o : Opened} {hb pb : List ℕ} → opened_to o hb pb ≡ opening x y z h p → Opens x y z (length h) (length p) o hb pb
+pub opens : (x y z h p : List ℕ) {o : Opened} {hb pb : List ℕ} → opened_to (Some o) hb pb ≡ opening x y z h p → Opens x y z (length h) (length p) o hb pb
 unfolding opening
-opens x y z h p e =
-    subst (λ (q : Opening). Opens x y z (length h) (length p) q.gives q.header q.payload) (sym e)
-    (record { is = refl; header_front = decoded_front x h; payload_front = decoded_front y p })
+opens x y z h p {o} {hb} {pb} e =
+    go (strict x && (strict y && strict z)) refl (ap (λ (q : Opening). q.gives) e) (ap (λ (q : Opening). q.header) e) (ap (λ (q : Opening). q.payload) e)
+  where
+    go : (t : Bool) → strict x && (strict y && strict z) ≡ t
+        → Some o ≡ cond t (Some (parts_of x y z)) None
+        → hb ≡ decoded_out x h → pb ≡ decoded_out y p → Opens x y z (length h) (length p) o hb pb
+    go true k e f g =
+        let a = both (strict x) (strict y && strict z) k in
+        let b = both (strict y) (strict z) a.1 in
+        let is : o ≡ parts_of x y z = cc in
+        record {
+          strict1 = a.0;
+          strict2 = b.0;
+          strict3 = b.1;
+          header = ap (λ (o : Opened). o.header) is;
+          payload = ap (λ (o : Opened). o.payload) is;
+          signature = ap (λ (o : Opened). o.signature) is;
+          header_front = λ l. rw f (decoded_front x h a.0 l);
+          payload_front = λ l. rw g (decoded_front y p b.0 l);
+        }
+    go false k e f g = cc
+
+pub not_opened : (x y z h p : List ℕ) {hb pb : List ℕ} → opened_to None hb pb ≡ opening x y z h p → strict x && (strict y && strict z) ≡ false
+unfolding opening
+not_opened x y z h p e = go (strict x && (strict y && strict z)) refl (ap (λ (q : Opening). q.gives) e)
+  where
+    go : (t : Bool) → strict x && (strict y && strict z) ≡ t
+        → None ≡ cond t (Some (parts_of x y z)) None → strict x && (strict y && strict z) ≡ false
+    go true k e = cc
+    go false k e = k

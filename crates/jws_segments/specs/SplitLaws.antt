@@ -1,11 +1,15 @@
 -- What the places of the two periods say of a token's segments.
-use Rattle.std.specs.Prelude.{◌≡◌, refl, Bool, true, false, cond, List, [], ◌∷◌, ◌++◌, ℕ, zero, suc, ◌+◌, ◌-◌, ◌≤◌, ◌<◌, eqb, length, take, drop}
-use Rattle.std.proofs.Common.{sym, ap, ◌∙◌, append_assoc, append-nil, arith, length-append, length-drop, take-append-drop, take_at, drop_at, drop-drop, take_all, length-take-le, eqb-true, eq-eqb, ne_eqb}
+use Rattle.std.specs.Prelude.{◌≡◌, refl, Bool, true, false, cond, not, ◌||◌, List, [], ◌∷◌, ◌++◌, ℕ, zero, suc, ◌+◌, ◌-◌, ◌*◌, ◌/◌, ◌≤◌, ◌<◌, eqb, ltb, length, take, drop, fold, position, Option, Some, None, unwrap_or, option_map, is_some}
+use Rattle.std.specs.List.{position_or_len}
+use Rattle.std.specs.Simd.{first_chunks}
+use Rattle.std.proofs.Common.{sym, ap, ◌∙◌, append_assoc, append-nil, arith, length-append, length-drop, take-append-drop, take_at, drop_at, drop-drop, take-add, length-take-le, eqb-true, eq-eqb, ne_eqb, lt-ltb, le-ltb, ltb-true, ltb-false}
+use Rattle.std.proofs.Math.Bool.{or-false}
+use Rattle.std.proofs.lemmas.List.Recursion.{is_position_or_len}
+use Rattle.common.specs.Laid.{part_from}
 use Rattle.jws_rules.specs.Segments.{period, periods, front, back, ◌dot◌}
 use Rattle.jws_rules.proofs.SegmentLaws.{length_dot, periods_dot, front_past, split}
 use Rattle.jws_rules.specs.Token.{sent_input}
-use Rattle.jws_segments.specs.declared.periods.Cut.TheVariants.{At, Not}
-use Rattle.jws_segments.specs.Split.{split_of}
+use Rattle.jws_segments.specs.Split.{with_period, first_period, at, split_of}
 
 -- A LIST WITH A PERIOD: its front, and its back as what follows the period
 
@@ -34,42 +38,155 @@ front_all : (t : List ℕ) → periods t ≡ 0 → front t ≡ t
 unfolding front
 front_all t e = ap front (sym (append-nil t)) ∙ front_past t [] e ∙ append-nil t
 
--- a block of n bytes without a period is passed over
-pub block_past : (t : List ℕ) (i n : ℕ) → i + n ≤ length t → periods (take n (drop i t)) ≡ 0 → length (front (drop i t)) ≡ n + length (front (drop (i + n) t))
-block_past t i n h e =
-    let r = drop i t in
-    ap (λ (l : List ℕ). length (front l)) (sym (take-append-drop n r))
-    ∙ ap length (front_past (take n r) (drop n r) e)
-    ∙ length-append (take n r) (front (drop n r))
-    ∙ rw (length-take-le n r (omega (arith, length-drop i t)), drop-drop n i t) refl
+-- WHERE THE FIRST PERIOD STANDS
 
--- what a search for the first period says, by the place n where it ends
-module _ (t : List ℕ) {n : ℕ} (e : n ≡ length (front t)) where
-  pub none_found : length t ≤ n → periods t ≡ 0
-  none_found h = go (periods t) refl
-    where
-      go : (k : ℕ) → periods t ≡ k → k ≡ 0
-      go zero p = refl
-      go (suc k) p = let d = divided t (omega arith) in absurd (omega arith)
+with_is : (s : List ℕ) → with_period s ≡ ltb 0 (periods s)
+unfolding periods
+with_is s = go false s
+  where
+    one : (found q : Bool) (n : ℕ) → (found || q) || ltb 0 n ≡ found || ltb 0 (cond q (suc n) n)
+    one true true n = refl
+    one true false n = refl
+    one false true n = sym (lt-ltb 0 (suc n) (omega arith))
+    one false false n = refl
 
-  pub one_found : n < length t → Divided t
-  one_found h = go (periods t) refl
-    where
-      go : (k : ℕ) → periods t ≡ k → Divided t
-      go zero p = absurd (omega (arith, ap length (front_all t p)))
-      go (suc k) p = divided t (omega arith)
+    go : (found : Bool) (s : List ℕ) → fold (λ (found : Bool) (b : ℕ). found || eqb b period) found s ≡ found || ltb 0 (periods s)
+    go found [] = sym (or-false found)
+    go found (c ∷ s) = go (found || eqb c period) s ∙ one found (eqb c period) (periods s)
 
-  -- the rest of the list, as the code has it
-  pub rest_is : Divided t → take (length t - (n + 1)) (drop (n + 1) t) ≡ back t
-  rest_is d = take_all (length t - (n + 1)) (drop (n + 1) t) (omega (arith, length-drop (n + 1) t)) ∙ rw e (sym d.back_is)
+-- byte by byte
+abbrev pub is_period : ℕ → Bool
+is_period b = eqb b period
+
+front_length : (s : List ℕ) → length (front s) ≡ position_or_len is_period s
+unfolding front
+front_length s = is_position_or_len (λ (s : List ℕ). length (front s)) is_period refl step s
+  where
+    step : (c : ℕ) (s : List ℕ) → length (front (c ∷ s)) ≡ cond (is_period c) 0 (1 + length (front s))
+    step c s = go (is_period c)
+      where
+        go : (t : Bool) → length (cond t [] (c ∷ front s)) ≡ cond t 0 (1 + length (front s))
+        go true = refl
+        go false = omega arith
+
+placed : (s : List ℕ) → ltb (length (front s)) (length s) ≡ ltb 0 (periods s)
+placed s = go (periods s) refl
+  where
+    go : (k : ℕ) → periods s ≡ k → ltb (length (front s)) (length s) ≡ ltb 0 k
+    go zero p = le-ltb (length (front s)) (length s) (omega (arith, ap length (front_all s p)))
+    go (suc k) p = let d = divided s (omega arith) in lt-ltb (length (front s)) (length s) (omega (arith, d.sum)) ∙ sym (lt-ltb 0 (suc k) (omega arith))
+
+pub by_bytes : (s : List ℕ) → position is_period s ≡ first_period s
+unfolding first_period
+by_bytes s = rw (← front_length s, placed s)
+
+-- the first n bytes of s are within it, and no period is among them
+pub record Passed (s : List ℕ) (n : ℕ) : Type 0 where
+  pub within : n ≤ length s
+  pub none : periods (take n s) ≡ 0
+
+periods_append : (a b : List ℕ) → periods (a ++ b) ≡ periods a + periods b
+unfolding periods
+periods_append [] b = omega arith
+periods_append (x ∷ a) b = go (eqb x period) (periods_append a b)
+  where
+    go : (q : Bool) → periods (a ++ b) ≡ periods a + periods b → cond q (suc (periods (a ++ b))) (periods (a ++ b)) ≡ cond q (suc (periods a)) (periods a) + periods b
+    go true ih = omega arith
+    go false ih = ih
+
+-- blocks without a period
+blocks_passed : (n : ℕ) (s : List ℕ) → n * 32 ≤ length s → let k = position_or_len with_period (first_chunks 32 n s) in (k ≤ n) × (periods (take (k * 32) s) ≡ 0)
+unfolding periods
+blocks_passed zero s h = (omega arith, refl)
+blocks_passed (suc n) s h = go (with_period (take 32 s)) refl (blocks_passed n (drop 32 s) (omega (arith, length-drop 32 s)))
+  where
+    later : ℕ
+    later = position_or_len with_period (first_chunks 32 n (drop 32 s))
+
+    go : (t : Bool) → with_period (take 32 s) ≡ t → (later ≤ n) × (periods (take (later * 32) (drop 32 s)) ≡ 0)
+        → let k = cond (not t) (1 + later) 0 in (k ≤ suc n) × (periods (take (k * 32) s) ≡ 0)
+    go true e ih = (omega arith, refl)
+    go false e ih =
+        let end : (1 + later) * 32 ≡ 32 + later * 32 = omega arith in
+        let none : periods (take 32 s) ≡ 0 = omega (arith, ltb-false 0 (periods (take 32 s)) (sym (with_is (take 32 s)) ∙ e)) in
+        (omega arith, rw (end, take-add 32 (later * 32) s, periods_append (take 32 s) (take (later * 32) (drop 32 s)), none, ih.1))
+
+pub past_blocks : (s : List ℕ) {blocks : List (List ℕ)} {r : Option ℕ} {k : ℕ} → blocks ≡ first_chunks 32 (length s / 32) s → length blocks ≡ length s / 32
+    → r ≡ position with_period blocks → k ≡ unwrap_or r (length blocks) → Passed s (k * 32)
+past_blocks s {blocks} {k = k} e l g f =
+    let b = blocks_passed (length s / 32) s (omega arith) in
+    let p : position_or_len with_period blocks ≡ position_or_len with_period (first_chunks 32 (length s / 32) s) = ap (position_or_len with_period) e in
+    let place : k ≡ position_or_len with_period (first_chunks 32 (length s / 32) s) =
+    f ∙ ap (λ (o : Option ℕ). unwrap_or o (length blocks)) g ∙ go (ltb (position_or_len with_period blocks) (length blocks)) refl (omega (arith, p)) ∙ p in
+    record { within = omega arith; none = rw place b.1 }
+  where
+    go : (t : Bool) → ltb (position_or_len with_period blocks) (length blocks) ≡ t → position_or_len with_period blocks ≤ length blocks
+        → unwrap_or (cond t (Some (position_or_len with_period blocks)) None) (length blocks) ≡ position_or_len with_period blocks
+    go true e h = refl
+    go false e h = let m = ltb-false _ _ e in omega arith
+
+-- the search goes on behind them
+pub further : (s : List ℕ) (n : ℕ) → Passed s n → option_map (λ (m : ℕ). n + m) (first_period (take (length s - n) (drop n s))) ≡ first_period s
+unfolding first_period
+further s n p =
+    let whole = take-append-drop n s in
+    let count : periods s ≡ periods (drop n s) = ap periods (sym whole) ∙ periods_append (take n s) (drop n s) ∙ omega (arith, p.none) in
+    let place : length (front s) ≡ n + length (front (drop n s)) =
+    ap (λ (l : List ℕ). length (front l)) (sym whole) ∙ ap length (front_past (take n s) (drop n s) p.none) ∙ omega (arith, length-append (take n s) (front (drop n s)), length-take-le n s p.within) in
+    rw (part_from n s, count, place) (go (ltb 0 (periods (drop n s))))
+  where
+    go : (t : Bool) → option_map (λ (m : ℕ). n + m) (cond t (Some (length (front (drop n s)))) None) ≡ cond t (Some (n + length (front (drop n s)))) None
+    go true = refl
+    go false = refl
+
+-- what a search says
+pub record Found (t : List ℕ) (n : ℕ) : Type 0 where
+  pub place : n ≡ length (front t)
+  pub parts : Divided t
+
+pub found : (t : List ℕ) {n : ℕ} → Some n ≡ first_period t → Found t n
+unfolding first_period
+found t {n} e = go (ltb 0 (periods t)) refl e
+  where
+    go : (q : Bool) → ltb 0 (periods t) ≡ q → Some n ≡ cond q (Some (length (front t))) None → Found t n
+    go true k e = record { place = cc; parts = divided t (ltb-true 0 (periods t) k) }
+    go false k e = cc
+
+pub none_found : (t : List ℕ) → None ≡ first_period t → periods t ≡ 0
+unfolding first_period
+none_found t e = go (ltb 0 (periods t)) refl e
+  where
+    go : (q : Bool) → ltb 0 (periods t) ≡ q → None ≡ cond q (Some (length (front t))) None → periods t ≡ 0
+    go true k e = cc
+    go false k e = omega (arith, ltb-false 0 (periods t) k)
+
+pub some_found : (t : List ℕ) {r : Option ℕ} → r ≡ first_period t → is_some r ≡ true → 0 < periods t
+unfolding first_period
+some_found t e h = go (ltb 0 (periods t)) refl (sym (ap is_some e) ∙ h)
+  where
+    go : (q : Bool) → ltb 0 (periods t) ≡ q → is_some (cond q (Some (length (front t))) None) ≡ true → 0 < periods t
+    go true k h = ltb-true 0 (periods t) k
+    go false k h = cc
+
+pub not_found : (t : List ℕ) {r : Option ℕ} → r ≡ first_period t → is_some r ≡ false → periods t ≡ 0
+unfolding first_period
+not_found t e h = go (ltb 0 (periods t)) refl (sym (ap is_some e) ∙ h)
+  where
+    go : (q : Bool) → ltb 0 (periods t) ≡ q → is_some (cond q (Some (length (front t))) None) ≡ false → periods t ≡ 0
+    go true k h = cc
+    go false k h = omega (arith, ltb-false 0 (periods t) k)
+
+-- the rest of the list, as the code has it
+pub rest_is : (t : List ℕ) {n : ℕ} → Found t n → take (length t - (n + 1)) (drop (n + 1) t) ≡ back t
+rest_is t {n} f = part_from (n + 1) t ∙ rw f.place (sym f.parts.back_is)
 
 -- THE TWO PERIODS
 
-pub is_two : (t : List ℕ) → periods t ≡ 2 → At (length (front t)) (length (front t) + 1 + length (front (back t))) ≡ split_of t
+pub is_two : (t : List ℕ) → periods t ≡ 2 → at (length (front t)) (length (front t) + 1 + length (front (back t))) ≡ split_of t
 unfolding split_of
 is_two t e = rw (eq-eqb (periods t) 2 e)
 
-pub not_two : (t : List ℕ) → (periods t ≡ 2 → ⊥) → Not ≡ split_of t
+pub not_two : (t : List ℕ) → (periods t ≡ 2 → ⊥) → None ≡ split_of t
 unfolding split_of
 not_two t h = rw (ne_eqb (periods t) 2 h)
 
@@ -106,16 +223,16 @@ places t a b n two f g e =
       within = omega arith;
     }
 
-pub split_at : (t : List ℕ) {a b : ℕ} → At a b ≡ split_of t → Places t a b
+pub split_at : (t : List ℕ) {a b : ℕ} → at a b ≡ split_of t → Places t a b
 unfolding split_of
 split_at t {a} {b} e = go (eqb (periods t) 2) refl e
   where
-    go : (q : Bool) → eqb (periods t) 2 ≡ q → At a b ≡ cond q (At (length (front t)) (length (front t) + 1 + length (front (back t)))) Not → Places t a b
+    go : (q : Bool) → eqb (periods t) 2 ≡ q → at a b ≡ cond q (at (length (front t)) (length (front t) + 1 + length (front (back t)))) None → Places t a b
     go true k e =
-        let f : a ≡ length (front t) = cc in
-        let g : b ≡ length (front t) + 1 + length (front (back t)) = cc in
+        let f : a ≡ length (front t) = ap (λ (o : Option (ℕ × ℕ)). (unwrap_or o (0, 0)).0) e in
+        let g : b ≡ length (front t) + 1 + length (front (back t)) = ap (λ (o : Option (ℕ × ℕ)). (unwrap_or o (0, 0)).1) e in
         places t a b (length (front (back t))) (eqb-true (periods t) 2 k) f refl (rw f g)
-    go false k e = absurd (let z : ◌≡◌ {A = ℕ} 0 1 = cc in omega arith)
+    go false k e = cc
 
-pub split_not : (t : List ℕ) → Not ≡ split_of t → periods t ≡ 2 → ⊥
-split_not t e two = let f = is_two t two in let z : ◌≡◌ {A = ℕ} 0 1 = cc in omega arith
+pub split_not : (t : List ℕ) → None ≡ split_of t → periods t ≡ 2 → ⊥
+split_not t e two = let f = is_two t two in cc

@@ -3,11 +3,8 @@
 
 mod periods; // periods.rt: where a token's periods stand
 mod equal; // equal.rt: whether two MACs are equal
-mod segment; // segment.rt: decoding one segment
-mod signature; // signature.rt: a token's signature
 mod opening; // opening.rt: a token's three segments decoded
 
+pub use equal::is_mac;
 pub use opening::{Opened, open_segments};
-pub use periods::{Cut, split};
-pub use segment::Segment;
-pub use signature::{Signature, is_mac};
+pub use periods::split;

@@ -17,8 +17,8 @@ returns-in_default c =
 
 pub judge_segments-requires : goal.judge_segments-requires
 judge_segments-requires c =
-    (law.table_good _ c.good.ensures c.if-not-good.false-raw, split_at _ (sym c.in-At.is ∙ c.split.ensures))
+    (law.table_good _ c.good.ensures c.if-not-good.false-raw, split_at _ (sym c.in-Some.is ∙ c.split.ensures))
 
 pub returns : goal.returns
 returns c =
-    law.judged_token _ (omega arith) (law.table_good _ c.good.ensures c.if-not-good.false-raw) (split_at _ (sym c.in-At.is ∙ c.split.ensures)).two c.judge_segments.ensures
+    law.judged_token _ (omega arith) (law.table_good _ c.good.ensures c.if-not-good.false-raw) (split_at _ (sym c.in-Some.is ∙ c.split.ensures)).two c.judge_segments.ensures

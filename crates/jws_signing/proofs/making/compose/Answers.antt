@@ -10,8 +10,7 @@ slice_bounds-hmac_sha256-end c =
     omega (arith, c.signing_input-n.ensures.size, c.signing_input-n.auto, length_dot (encode c.args.header.now) (encode c.args.payload.now))
 
 pub segment-requires : goal.segment-requires
-segment-requires c =
-    omega (arith, c.signing_input-n.ensures.size, c.signing_input-n.auto, length_dot (encode c.args.header.now) (encode c.args.payload.now), length_text c.hmac_sha256-mac.result (omega arith))
+segment-requires c = omega (arith, c.signing_input-n.ensures.size, c.signing_input-n.auto, length_dot (encode c.args.header.now) (encode c.args.payload.now), length_text c.hmac_sha256-mac.result (omega arith))
 
 pub returns : goal.returns
 returns c =
