@@ -1,3 +1,2 @@
--- What the code answers, and what the walk to member k picks.
-pub mod Shown
+-- What the walk to member k picks.
 pub mod Picks

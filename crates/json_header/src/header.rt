@@ -3,7 +3,7 @@ ghost use Rattle.std.specs.Prelude.{◌≡◌, ◌<◌, length};
 ghost use Rattle.answers.specs.Numbers.{answer};
 ghost use Rattle.json_rules.specs.Answers.{shown_by};
 ghost use Rattle.json_rules.specs.Tests.{checked, member_of};
-ghost use Rattle.json_header.specs.Shown.{found, shown};
+ghost use Rattle.json_rules.specs.Shown.{found, shown};
 ghost use Rattle.json_header.specs.Picks.{Picks};
 
 use answers::Refusal;

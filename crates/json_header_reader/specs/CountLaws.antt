@@ -1,11 +1,14 @@
 -- What `count_of` says, by the grammar; and where a reader that goes from member to member stops.
-use Rattle.std.specs.Prelude.{◌≡◌, Bool, true, length}
+use Rattle.std.specs.Prelude.{◌≡◌, Bool, true, false, eqb, length}
 use Rattle.std.proofs.Math.Path.{refl, sym, ap}
 use Rattle.std.proofs.Common.{◌∙◌, true≢false, arith}
 use mathlib.Core.List.{List, [], ◌∷◌}
 use Prim.Native.Nat.{ℕ, zero, suc, ◌≤◌, ◌<◌}
 use borrow.Author.Tests.{ltb-false, ne_eqb}
 use Rattle.common.proofs.Decided.{test_false}
+use Rattle.answers.specs.declared.Refusal.{Refusal}
+use Rattle.answers.specs.Numbers.{number}
+use Rattle.answers.proofs.NumberLaws.{not_done}
 use Rattle.common.specs.First.{among, settle}
 use Rattle.common.proofs.FirstLaws.{decides_lt, stable, not_on, settle_good}
 use Rattle.json_grammar_rules.specs.Twice.{TwiceNamed}
@@ -21,8 +24,7 @@ use Rattle.json_rules.specs.Answers.{Member, Refused, number_of}
 use Rattle.json_rules.specs.Tests.{members_in, checked, member_of, Read}
 use Rattle.json_rules.proofs.Promises.{derivation, header_none, header_range, refused, member_past, member_found, unread}
 use Rattle.json_rules.proofs.Demand3.{read_exactly}
-use Rattle.json_header_reader.specs.declared.Counted.{Counted}
-use Rattle.json_header_reader.specs.Counting.{with_members, count_of, ended_if, ended_at}
+use Rattle.json_header_reader.specs.Counting.{Counted, with_members, count_of, ended_if, ended_at}
 
 -- FEWER MEMBERS THAN BYTES
 
@@ -44,6 +46,26 @@ object_count (object_of b (pair cs n v) ms e) r =
 pub members_fit : (t : Derivation) → count (reading_of t) ≤ length (bytes t)
 unfolding reading_of bytes
 members_fit t = let r = yield_many t.after [] in omega (arith, object_count t.top r, longer (white t.before) (yield_object t.top r))
+
+-- ONE REFUSAL IS NUMBERED 16
+
+not_last : (r : Refusal) → (r ≡ Refusal.NoSuchMember → ⊥) → eqb (number r) 16 ≡ false
+not_last Refusal.TokenTooLong n = refl
+not_last Refusal.BadTable n = refl
+not_last Refusal.NotTwoPeriods n = refl
+not_last Refusal.NotBase64url n = refl
+not_last Refusal.HeaderTooLong n = refl
+not_last Refusal.BufferTooShort n = refl
+not_last Refusal.NotDerived n = refl
+not_last Refusal.NameTwice n = refl
+not_last Refusal.WrongKind n = refl
+not_last Refusal.Critical n = refl
+not_last Refusal.WrongAlg n = refl
+not_last Refusal.NoKey n = refl
+not_last Refusal.AlgNotAllowed n = refl
+not_last Refusal.FormatNotAllowed n = refl
+not_last Refusal.SignatureDiffers n = refl
+not_last Refusal.NoSuchMember n = absurd (n refl)
 
 -- A HEADER IS READ OR REFUSED
 
@@ -143,3 +165,14 @@ module _ (h : List ℕ) where
           let e : k ≡ count (reading_of t.0) = omega (arith, m, l, ap total_of whole) in
           ap (λ (x : Member). ended_at (number_of x) k) (past c k m) ∙ ap (with_members 0) e ∙ sym whole
       go (suc a) c = ap (λ (x : Member). ended_at (number_of x) k) (refused h a c k) ∙ ap (λ (b : Bool). ended_if b (suc a) k) (ne_eqb (suc a) 16 (other a c)) ∙ sym (count_refused a c)
+
+  -- by 16 past the last member, and by any other refusal
+  module _ (k : ℕ) (l : k ≤ total) (r : Refusal) (e : number r ≡ number_of (member_of h k)) where
+    stopped : ended_at (number r) k ≡ count_of h
+    stopped = ap (λ (n : ℕ). ended_at n k) e ∙ stops k l (λ z. not_done r (e ∙ z))
+
+    pub stops_last : r ≡ Refusal.NoSuchMember → with_members 0 k ≡ count_of h
+    stops_last z = sym (ap (λ (d : Refusal). ended_at (number d) k) z) ∙ stopped
+
+    pub stops_refused : (r ≡ Refusal.NoSuchMember → ⊥) → with_members (number r) 0 ≡ count_of h
+    stops_refused n = sym (ap (λ (b : Bool). ended_if b (number r) k) (not_last r n)) ∙ stopped

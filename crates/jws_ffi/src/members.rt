@@ -13,9 +13,8 @@ pub extern "C" fn jws_member(header: &[u8], k: usize, member: &mut [u64; 5]) -> 
     ensures number { result ≡ number_of (member_of header.now k) }
     ensures words { member.new ≡ member_words (member_of header.now k) }
 {
-    let m = json_header::member(header, k);
-    let a = answer_of(m);
-    let words = a.words;
+    let answer = answer_of(json_header::member(header, k));
+    let words = answer.words;
     *member = words;
-    a.number
+    answer.number
 }

@@ -3,8 +3,8 @@ use Rattle.std.proofs.Common.{◌≡◌, ◌-◌, ◌≤◌}
 use Rattle.json_header_reader.specs.CountLaws.{total}
 use Rattle.json_header_reader.proofs.count.Given as goal
 
-abbrev pub invariant-loop-r : goal.invariant-loop-r
-invariant-loop-r l = (l.r.header.now ≡ l.header) × (l.r.at ≤ total l.header)
+abbrev pub invariant-loop-refusal : goal.invariant-loop-refusal
+invariant-loop-refusal l = (l.reader.header.now ≡ l.header) × (l.reader.at ≤ total l.header)
 
-abbrev pub decreases-loop-r : goal.decreases-loop-r
-decreases-loop-r l = total l.header - l.r.at
+abbrev pub decreases-loop-refusal : goal.decreases-loop-refusal
+decreases-loop-refusal l = total l.header - l.reader.at

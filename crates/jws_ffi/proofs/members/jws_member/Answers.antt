@@ -2,4 +2,4 @@
 use Rattle.jws_ffi.proofs.members.jws_member.Goals as goal
 
 pub returns : goal.returns
-returns c = let a = rw c.member-m.ensures at c.answer_of-a.ensures in record { number = a.0; words = a.1 }
+returns c = let a = rw c.member.ensures at c.answer_of-answer.ensures in record { number = a.0; words = a.1 }

@@ -1,0 +1,36 @@
+-- What the code answers, as the definitions have it.
+use Rattle.std.specs.Prelude.{◌≡◌, refl, Result, Ok, Err}
+use Rattle.answers.specs.declared.Refusal.{Refusal as Reason}
+use Rattle.answers.specs.Numbers.{number, answer}
+use Rattle.json_rules.specs.declared.Member.{Member as Found}
+use Rattle.json_rules.specs.Answers.{Member, String, Number, True, False, Null, Array, Object, Refused, number_of}
+
+abbrev pub found : Found → Member
+found (Found.String n v) = String n v
+found (Found.Number n v) = Number n v
+found (Found.True n v) = True n v
+found (Found.False n v) = False n v
+found (Found.Null n v) = Null n v
+found (Found.Array n v) = Array n v
+found (Found.Object n v) = Object n v
+
+-- a member, or the refusal's number
+abbrev pub shown : Result Found Reason → Member
+shown (Ok m) = found m
+shown (Err r) = Refused (number r)
+
+-- the number of what is shown is that of the answer
+number_found : (m : Found) → number_of (found m) ≡ 0
+unfolding number_of
+number_found (Found.String n v) = refl
+number_found (Found.Number n v) = refl
+number_found (Found.True n v) = refl
+number_found (Found.False n v) = refl
+number_found (Found.Null n v) = refl
+number_found (Found.Array n v) = refl
+number_found (Found.Object n v) = refl
+
+pub number_shown : (r : Result Found Reason) → number_of (shown r) ≡ answer r
+unfolding number_of
+number_shown (Ok m) = number_found m
+number_shown (Err r) = refl
