@@ -1,4 +1,5 @@
 -- A header that is read: its facts, and what it decides by them.
+use Rattle.std.specs.Prelude.{Some, None}
 use mathlib.Core.Path.{◌≡◌, refl, sym, ap, ap₂, ◌∙◌, subst}
 use mathlib.Core.Bool.{Bool, true, false, cond}
 use mathlib.Core.List.{List}
@@ -6,21 +7,22 @@ use mathlib.Core.Option.{some}
 use Prim.Native.Nat.{ℕ, zero, suc, ◌-◌, ◌≤◌, ◌<◌}
 use lib.ListN.{length}
 use borrow.Author.Tests.{lt-ltb, le-ltb}
+use Rattle.answers.specs.declared.Refusal.{Refusal}
+use Rattle.answers.specs.Numbers.{number}
+use Rattle.answers.proofs.NumberLaws.{not_done}
 use Rattle.common.specs.First.{first}
 use Rattle.common.proofs.FirstLaws.{first_within, first_after}
 use Rattle.common.specs.Same.{same}
 use Rattle.json_grammar_rules.specs.Value.{LMembers, item, named, lnil, lcons}
 use Rattle.json_grammar_rules.specs.Places.{placed}
-use Rattle.json_grammar_rules.specs.declared.Kind.{Kind}
-use Rattle.json_string.specs.declared.End.{End}
-use Rattle.json_rules.specs.declared.Place.{Place}
+use Rattle.json_string.specs.Ends.{End}
+use Rattle.json_rules.specs.Answers.{size_of}
 use Rattle.json_rules.specs.Rules.{longest, deepest}
 use Rattle.json_rules.specs.Tests.{members_in, grammar_tests}
 use Rattle.json_rules.proofs.AnswerLaws.{grammar_read}
-use Rattle.json_members.specs.declared.slots.Slot.{Slot}
-use Rattle.json_members.specs.declared.slots.Slot.TheVariants.{Absent, Is}
+use Rattle.json_members.specs.declared.places.Value.{Value as Placed}
 use Rattle.json_members.specs.Members.{MembersFrom, TopMembers}
-use Rattle.json_members.specs.Slots.{item_of, ShowsAs, ShowsAll, Within, size_of}
+use Rattle.json_members.specs.Slots.{Slot, item_of, ShowsAs, ShowsAll, Within}
 use Rattle.keytable_rules.specs.Table.{bad_table, keys}
 use Rattle.jose_rules.specs.declared.Facts.{Facts}
 use Rattle.jose_rules.specs.declared.Verdict.{Verdict}
@@ -53,18 +55,18 @@ at_top {h} {r} c t =
 
 -- THE RAW TEXTS
 
-pub raw_made : {s : Slot} {k : Kind} {x : Place} → s ≡ Is k x → {n : ℕ} → n ≡ size_of x → record { start = x.start; length = n } ≡ raw_of s
-raw_made {x = x} e c = ap (λ (n : ℕ). record { start = x.start; length = n }) c ∙ sym (ap raw_of e)
+pub raw_made : {s : Slot} {v : Placed} → s ≡ Some v → {n : ℕ} → n ≡ size_of v.place → record { start = v.place.start; length = n } ≡ raw_of s
+raw_made {v = v} e c = ap (λ (n : ℕ). record { start = v.place.start; length = n }) c ∙ sym (ap raw_of e)
 
 raw_item : (h : List ℕ) (d : ℕ) (n : List ℕ) (s : Slot) (ms : LMembers) → ShowsAs h d s (item_of n ms) → raw_of s ≡ raw_text h n ms
 unfolding item_of raw_text placed
-raw_item h d n Absent lnil w = refl
-raw_item h d n (Is k x) lnil w = absurd w
+raw_item h d n None lnil w = refl
+raw_item h d n (Some x) lnil w = absurd w
 raw_item h d n s (lcons (named f t m (item a b v)) ms) w = go (same m n) (raw_item h d n s ms) w
   where
     place : (s : Slot) → ShowsAs h d s (some (item a b v)) → raw_of s ≡ value_part (placed h (named f t m (item a b v)))
-    place Absent w = absurd w
-    place (Is k x) w = ap₂ (λ (p q : ℕ). record { start = p; length = q - p }) w.start w.end
+    place None w = absurd w
+    place (Some x) w = ap₂ (λ (p q : ℕ). record { start = p; length = q - p }) w.start w.end
 
     go : (c : Bool) → (ShowsAs h d s (item_of n ms) → raw_of s ≡ raw_text h n ms) → ShowsAs h d s (cond c (some (item a b v)) (item_of n ms))
         → raw_of s ≡ cond c (value_part (placed h (named f t m (item a b v)))) (raw_text h n ms)
@@ -94,9 +96,11 @@ with_texts zero f m = refl
 with_texts (suc n) f m = refl
 
 module _ (h : List ℕ) (q : Terms) where
-  pub decision_unread : {n : ℕ} → n ≡ first (grammar_tests deepest h) → (n ≡ 0 → ⊥) → Refused n ≡ decision_with h q
+  pub decision_unread : (r : Refusal) {n : ℕ} → number r ≡ first (grammar_tests deepest h) → n ≡ number r → Refused n ≡ decision_with h q
   unfolding decision_with
-  decision_unread {n} e z =
+  decision_unread r {n} f i =
+      let e : n ≡ first (grammar_tests deepest h) = i ∙ f in
+      let z : n ≡ 0 → ⊥ = λ g. not_done r (sym i ∙ g) in
       let later = choosing_tests (header_facts h q.keys) no_facts q.keys in
       refused n (header_choice h q.keys) z
       ∙ ap (λ (m : ℕ). decision_by m (header_choice h q.keys)) (e ∙ sym (first_within (grammar_tests deepest h) later (λ g. z (e ∙ g))))

@@ -1,7 +1,7 @@
 -- What a verdict decides, with the raw texts of `typ` and `cty`.
-use Rattle.json_members.specs.declared.slots.Slot.{Slot}
-use Rattle.json_members.specs.declared.slots.Slot.TheVariants.{Absent, Is}
-use Rattle.json_members.specs.Slots.{size_of}
+use Rattle.std.specs.Prelude.{Some, None}
+use Rattle.json_rules.specs.Answers.{size_of}
+use Rattle.json_members.specs.Slots.{Slot}
 use Rattle.jose_rules.specs.declared.Part.{Part}
 use Rattle.jose_rules.specs.declared.Verdict.{Verdict}
 use Rattle.jose_rules.specs.declared.Decision.{Decision}
@@ -10,8 +10,8 @@ use Rattle.jose_facts.specs.declared.members.Known.{Known}
 
 -- the raw text
 abbrev pub raw_of : Slot → Part
-raw_of Absent = nowhere
-raw_of (Is k x) = record { start = x.start; length = size_of x }
+raw_of None = nowhere
+raw_of (Some v) = record { start = v.place.start; length = size_of v.place }
 
 -- the verdict, with the raw texts of `typ` and `cty`
 abbrev pub decision_of : Verdict → Known → Decision

@@ -9,12 +9,12 @@ ghost use Rattle.jose_rules.specs.Facts.{no_facts};
 ghost use Rattle.jose_rules.specs.Decision.{decision_with, decision};
 ghost use Rattle.jose.specs.Deciding.{raw_of, decision_of};
 
-use answers::{BAD_TABLE, DONE, HEADER_TOO_LONG};
+use answers::{BAD_TABLE, HEADER_TOO_LONG, Refusal};
 use jose_facts::{Known, facts_of, known_from};
 use jose_judging::judge;
 use jose_rules::{Alg, Choice, Crit, Decision, Facts, Fmt, Kid, Part, Text, Verdict};
 use json_check::check_text;
-use json_members::{Slot, size, top_members};
+use json_members::{Value, top_members};
 use json_rules::{DEEPEST, LONGEST};
 
 // The depth that is left for the values of the top object's members.
@@ -41,9 +41,8 @@ pub fn decide_with(header: &[u8], table: &[u8]) -> Decision
     requires { bad_table table.now ≡ false }
     ensures { result ≡ decision_with header.now (terms_of table.now) }
 {
-    let n = check_text(header, DEEPEST);
-    if n != DONE {
-        return Decision::Refused(n);
+    if let Err(refusal) = check_text(header, DEEPEST) {
+        return Decision::Refused(refusal.into());
     }
     let from = top_members(header);
     let known = known_from(header, from, INSIDE);
@@ -87,17 +86,17 @@ fn with_texts(verdict: Verdict, known: Known) -> Decision
 }
 
 // The raw text of a member: its start and its length, 0 and 0 where there is no such member.
-fn raw(slot: Slot) -> Part
+fn raw(slot: Option<Value>) -> Part
     ensures { result ≡ raw_of slot }
 {
-    let Slot::Is(_, place) = slot else {
+    let Some(value) = slot else {
         return Part {
             start: 0,
             length: 0,
         };
     };
     Part {
-        start: place.start,
-        length: size(place),
+        start: value.place.start,
+        length: value.place.size(),
     }
 }

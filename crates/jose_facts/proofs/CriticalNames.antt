@@ -1,4 +1,5 @@
 -- What `crit` says, element by element.
+use Rattle.std.specs.Prelude.{Some, None}
 use mathlib.Core.Path.{◌≡◌, refl, sym, ap, ◌∙◌, subst}
 use mathlib.Core.Bool.{Bool, true, false, cond, ◌||◌}
 use mathlib.Core.List.{List, ◌∷◌}
@@ -10,20 +11,17 @@ use Rattle.common.specs.Options.{bind}
 use Rattle.common.specs.Same.{same}
 use Rattle.json_grammar_rules.specs.Value.{LValue, LItems, item, inil, icons, plain, plain_item, plain_items}
 use Rattle.json_grammar_rules.specs.declared.Kind.{Kind}
-use Rattle.json_string.specs.declared.End.{End}
-use Rattle.json_string.specs.declared.End.TheVariants.{At, Bad}
+use Rattle.json_string.specs.Ends.{End}
 use Rattle.json_string.specs.Strings.{text_is}
 use Rattle.json_string.specs.WordLaws.{is_ascii, text_word}
-use Rattle.json_rules.specs.declared.Place.{Place}
-use Rattle.json_members.specs.declared.slots.Slot.{Slot}
-use Rattle.json_members.specs.declared.slots.Slot.TheVariants.{Absent, Is}
+use Rattle.json_members.specs.declared.places.Value.{Value as Placed}
 use Rattle.json_members.specs.declared.steps.Item.{Item}
 use Rattle.json_members.specs.Members.{ElementsAt, ElementsFrom, FirstElement, ItemAt}
 use Rattle.json_members.specs.MemberLaws.{no_elements}
-use Rattle.json_members.specs.Slots.{is_string, is_array}
+use Rattle.json_members.specs.Slots.{Slot}
 use Rattle.json_members.specs.SlotLaws.{shows_as, shown, kind_no, string_at, array_at}
-use Rattle.json_members.specs.Steps.{first_element}
-use Rattle.json_members.specs.StepLaws.{first_element_lem}
+use Rattle.json_members.specs.Steps.{first_element, item_at}
+use Rattle.json_members.specs.StepLaws.{no_item, first_element_lem}
 use Rattle.jose_rules.specs.declared.Crit.{Crit}
 use Rattle.jose_rules.specs.Names.{fmt}
 use Rattle.jose_rules.specs.Members.{string, strings, strings_in}
@@ -35,7 +33,7 @@ use Rattle.jose_facts.proofs.SlotFacts.{asks_string, asks_array, fact_absent, fa
 
 module _ {h : List ℕ} {p d : ℕ} {i : Item} (it : ItemAt h p d i) where
   -- an element that is no string
-  pub names_wrong : {l b : Bool} → is_string i.kind ≡ false → NamesGo h p d l b Crit.Wrong
+  pub names_wrong : {l b : Bool} → (i.value.kind ≡ Kind.String → ⊥) → NamesGo h p d l b Crit.Wrong
   unfolding strings_in plain_items plain
   names_wrong {l} {b} n = record { is = go }
     where
@@ -44,10 +42,10 @@ module _ {h : List ℕ} {p d : ℕ} {i : Item} (it : ItemAt h p d i) where
       go (icons (item x y v) vs) o =
           sym
           (ap (λ (s : Option (List ℕ)). pick Crit.Wrong Crit.Wrong (names_from l b) (bind s (λ t. bind (strings_in (plain_items vs)) (λ ns. some (t ∷ ns)))))
-          (asks_string (plain v) (kind_no (it.is x y v vs o).0 is_string n)))
+          (asks_string (plain v) (kind_no (it.is x y v vs o).0 n)))
 
   -- one name more
-  module _ (y : is_string i.kind ≡ true) {t : Bool} (c : t ≡ text_is h i.value.start fmt)
+  module _ (y : i.value.kind ≡ Kind.String) {t : Bool} (c : t ≡ text_is h i.value.place.start fmt)
       (l b : Bool) {l' b' : Bool} (bad : b' ≡ cond t (b || l) true) (listed : l' ≡ (t || l)) where
     step : (s : List ℕ) → t ≡ same s fmt → (o : Option (List (List ℕ)))
         → pick Crit.Wrong Crit.Wrong (names_from l b) (bind o (λ ns. some (s ∷ ns))) ≡ pick Crit.Wrong Crit.Wrong (names_from l' b') o
@@ -68,13 +66,13 @@ module _ {h : List ℕ} {p d : ℕ} {i : Item} (it : ItemAt h p d i) where
           vs,
           r.1,
           ap (λ (u : LValue). pick Crit.Wrong Crit.Wrong (names_from l b) (bind (string (plain u)) (λ s. bind (strings_in (plain_items vs)) (λ ns. some (s ∷ ns))))) w.1
-              ∙ step w.0 (c ∙ text_word fmt refl h i.value.start w.0 w.2) (strings_in (plain_items vs)),
+              ∙ step w.0 (c ∙ text_word fmt refl h i.value.place.start w.0 w.2) (strings_in (plain_items vs)),
         )
 
-    pub names_next : {q : ℕ} {r : Crit} → i.next ≡ At q → NamesGo h q d l' b' r → NamesGo h p d l b r
+    pub names_next : {q : ℕ} {r : Crit} → i.next ≡ Some q → NamesGo h q d l' b' r → NamesGo h p d l b r
     names_next e w = record { is = λ vs o. let u = one vs o in w.is u.0 (subst (λ (x : End). ElementsFrom h d x u.0) e u.1) ∙ sym u.2 }
 
-    pub names_last : i.next ≡ Bad → NamesGo h p d l b (Crit.Names b' l')
+    pub names_last : i.next ≡ None → NamesGo h p d l b (Crit.Names b' l')
     unfolding strings_in plain_items names_from
     names_last e = record { is = last }
       where
@@ -83,6 +81,10 @@ module _ {h : List ℕ} {p d : ℕ} {i : Item} (it : ItemAt h p d i) where
             let u = one vs o in
             let z : u.0 ≡ inil = subst (λ (x : End). ElementsFrom h d x u.0) e u.1 in
             sym (u.2 ∙ ap (names_after l' b') z)
+
+-- where nothing is read, no elements stand
+pub names_nothing : {h : List ℕ} {p d : ℕ} {l b : Bool} {r : Crit} → None ≡ item_at h p d → NamesGo h p d l b r
+names_nothing {h} {p} {d} e = record { is = λ vs o. no_item h p d e vs o }
 
 -- THE SLOT
 
@@ -103,20 +105,20 @@ some_names h p d (icons v vs) o = go (string (plain_item v)) (strings_in (plain_
     go (some t) (some ns) = refl
 
 module _ {h : List ℕ} {d : ℕ} {s : Slot} where
-  pub crit_absent : s ≡ Absent → CritFactIs h d s Crit.Absent
+  pub crit_absent : s ≡ None → CritFactIs h d s Crit.Absent
   unfolding crit_fact
   crit_absent e = record { is = λ o w. fact_absent Crit.Absent Crit.Wrong names_by strings o (shows_as e w) }
 
-  module _ {k : Kind} {x : Place} (e : s ≡ Is k x) where
-    pub crit_wrong_lem : is_array k ≡ false → CritFactIs h d s Crit.Wrong
+  module _ {x : Placed} (e : s ≡ Some x) where
+    pub crit_wrong_lem : (x.kind ≡ Kind.Array → ⊥) → CritFactIs h d s Crit.Wrong
     unfolding crit_fact
-    crit_wrong_lem n = record { is = λ o w. fact_wrong Crit.Absent Crit.Wrong names_by strings o (shows_as e w) is_array asks_array n }
+    crit_wrong_lem n = record { is = λ o w. fact_wrong Crit.Absent Crit.Wrong names_by strings o (shows_as e w) asks_array n }
 
-    module _ (y : is_array k ≡ true) where
-      pub crit_within : ShownAt h d s → x.start < length h
+    module _ (y : x.kind ≡ Kind.Array) where
+      pub crit_within : ShownAt h d s → x.place.start < length h
       crit_within w = (array_at (shown w.item (shows_as e w.shows)).stands y).2
 
-      pub crit_some : {p : ℕ} {r : Crit} → FirstElement h x.start (At p) → NamesGo h p (d - 1) false false r → CritFactIs h d s r
+      pub crit_some : {p : ℕ} {r : Crit} → FirstElement h x.place.start (Some p) → NamesGo h p (d - 1) false false r → CritFactIs h d s r
       unfolding crit_fact plain
       crit_some {p} f g = record {
         is = λ o w.
@@ -127,7 +129,7 @@ module _ {h : List ℕ} {d : ℕ} {s : Slot} where
             ∙ sym (fact_is Crit.Absent Crit.Wrong names_by strings o v ∙ ap (λ (u : LValue). pick Crit.Absent Crit.Wrong names_by (strings (plain u))) a.1);
       }
 
-      pub crit_empty : FirstElement h x.start Bad → CritFactIs h d s (Crit.Names true false)
+      pub crit_empty : FirstElement h x.place.start None → CritFactIs h d s (Crit.Names true false)
       unfolding crit_fact strings_in plain_items plain
       crit_empty f = record {
         is = λ o w.

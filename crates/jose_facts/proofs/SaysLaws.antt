@@ -1,4 +1,5 @@
 -- What `alg`, `kid`, `typ`, `cty` and `fmt` say, by the answers of the functions that look.
+use Rattle.std.specs.Prelude.{Some, None}
 use mathlib.Core.Path.{◌≡◌, refl, sym, ap, ◌∙◌, subst}
 use mathlib.Core.Bool.{Bool, true, false, cond}
 use mathlib.Core.List.{List}
@@ -12,11 +13,9 @@ use Rattle.json_grammar_rules.specs.declared.Kind.{Kind}
 use Rattle.json_characters.specs.Utf8.{utf8}
 use Rattle.json_string.specs.Strings.{text_is}
 use Rattle.json_string.specs.WordLaws.{is_ascii, text_word}
-use Rattle.json_rules.specs.declared.Place.{Place}
-use Rattle.json_members.specs.declared.slots.Slot.{Slot}
-use Rattle.json_members.specs.declared.slots.Slot.TheVariants.{Absent, Is}
+use Rattle.json_members.specs.declared.places.Value.{Value as Placed}
 use Rattle.json_members.specs.Members.{part}
-use Rattle.json_members.specs.Slots.{plain_of, Shows, is_string, is_number}
+use Rattle.json_members.specs.Slots.{Slot, plain_of, Shows}
 use Rattle.json_members.specs.SlotLaws.{shows_as, shown, string_at, number_at}
 use Rattle.decimal_rules.specs.declared.Integer.{Integer}
 use Rattle.decimal_rules.specs.declared.Integer.TheVariants.{Is as Number, No}
@@ -37,17 +36,17 @@ use Rattle.jose_facts.proofs.SlotFacts.{asks_string, asks_number, fact_absent, f
 -- `alg`
 
 module _ {h : List ℕ} {s : Slot} where
-  pub alg_absent : s ≡ Absent → FactIs h s alg_fact Alg.Absent
+  pub alg_absent : s ≡ None → FactIs h s alg_fact Alg.Absent
   unfolding alg_fact
   alg_absent e = record { is = λ d o w. fact_absent Alg.Absent Alg.Wrong alg_by string o (shows_as e w) }
 
-  module _ {k : Kind} {x : Place} (e : s ≡ Is k x) where
-    pub alg_wrong : is_string k ≡ false → FactIs h s alg_fact Alg.Wrong
+  module _ {x : Placed} (e : s ≡ Some x) where
+    pub alg_wrong : (x.kind ≡ Kind.String → ⊥) → FactIs h s alg_fact Alg.Wrong
     unfolding alg_fact
-    alg_wrong n = record { is = λ d o w. fact_wrong Alg.Absent Alg.Wrong alg_by string o (shows_as e w) is_string asks_string n }
+    alg_wrong n = record { is = λ d o w. fact_wrong Alg.Absent Alg.Wrong alg_by string o (shows_as e w) asks_string n }
 
     -- a string that is the word, or isn't
-    module _ (y : is_string k ≡ true) {t : Bool} (c : t ≡ text_is h x.start HS256) where
+    module _ (y : x.kind ≡ Kind.String) {t : Bool} (c : t ≡ text_is h x.place.start HS256) where
       alg_said : FactIs h s alg_fact (cond t Alg.HS256 Alg.Other)
       unfolding alg_fact is_ascii ascii HS256 plain
       alg_said = record { is = says }
@@ -56,7 +55,7 @@ module _ {h : List ℕ} {s : Slot} where
           says d o w =
               let v = shows_as e w in
               let z = string_at (shown o v).stands y in
-              ap (λ (b : Bool). cond b Alg.HS256 Alg.Other) (c ∙ text_word HS256 refl h x.start z.0 z.2)
+              ap (λ (b : Bool). cond b Alg.HS256 Alg.Other) (c ∙ text_word HS256 refl h x.place.start z.0 z.2)
               ∙ sym (fact_is Alg.Absent Alg.Wrong alg_by string o v ∙ ap (λ (u : LValue). pick Alg.Absent Alg.Wrong alg_by (string (plain u))) z.1)
 
       pub alg_said_yes : t ≡ true → FactIs h s alg_fact Alg.HS256
@@ -68,16 +67,16 @@ module _ {h : List ℕ} {s : Slot} where
 -- `kid`
 
 module _ {h : List ℕ} {s : Slot} (ks : List Key) where
-  pub kid_absent : s ≡ Absent → FactIs h s (kid_fact ks) Kid.Absent
+  pub kid_absent : s ≡ None → FactIs h s (kid_fact ks) Kid.Absent
   unfolding kid_fact
   kid_absent e = record { is = λ d o w. fact_absent Kid.Absent Kid.Wrong (λ c. key_by (find (utf8 c) ks)) string o (shows_as e w) }
 
-  module _ {k : Kind} {x : Place} (e : s ≡ Is k x) where
-    pub kid_wrong_lem : is_string k ≡ false → FactIs h s (kid_fact ks) Kid.Wrong
+  module _ {x : Placed} (e : s ≡ Some x) where
+    pub kid_wrong_lem : (x.kind ≡ Kind.String → ⊥) → FactIs h s (kid_fact ks) Kid.Wrong
     unfolding kid_fact
-    kid_wrong_lem n = record { is = λ d o w. fact_wrong Kid.Absent Kid.Wrong (λ c. key_by (find (utf8 c) ks)) string o (shows_as e w) is_string asks_string n }
+    kid_wrong_lem n = record { is = λ d o w. fact_wrong Kid.Absent Kid.Wrong (λ c. key_by (find (utf8 c) ks)) string o (shows_as e w) asks_string n }
 
-    module _ (y : is_string k ≡ true) {f : Found} (c : KeyNamed h x.start ks f) where
+    module _ (y : x.kind ≡ Kind.String) {f : Found} (c : KeyNamed h x.place.start ks f) where
       kid_said : FactIs h s (kid_fact ks) (key_by f)
       unfolding kid_fact plain
       kid_said = record { is = says }
@@ -99,16 +98,16 @@ module _ {h : List ℕ} {s : Slot} (ks : List Key) where
 -- `fmt`
 
 module _ {h : List ℕ} {s : Slot} where
-  pub fmt_absent : s ≡ Absent → FactIs h s fmt_fact Fmt.Absent
+  pub fmt_absent : s ≡ None → FactIs h s fmt_fact Fmt.Absent
   unfolding fmt_fact
   fmt_absent e = record { is = λ d o w. fact_absent Fmt.Absent Fmt.Wrong Fmt.Is integer o (shows_as e w) }
 
-  module _ {k : Kind} {x : Place} (e : s ≡ Is k x) where
-    pub fmt_wrong_lem : is_number k ≡ false → FactIs h s fmt_fact Fmt.Wrong
+  module _ {x : Placed} (e : s ≡ Some x) where
+    pub fmt_wrong_lem : (x.kind ≡ Kind.Number → ⊥) → FactIs h s fmt_fact Fmt.Wrong
     unfolding fmt_fact
-    fmt_wrong_lem n = record { is = λ d o w. fact_wrong Fmt.Absent Fmt.Wrong Fmt.Is integer o (shows_as e w) is_number asks_number n }
+    fmt_wrong_lem n = record { is = λ d o w. fact_wrong Fmt.Absent Fmt.Wrong Fmt.Is integer o (shows_as e w) asks_number n }
 
-    module _ (y : is_number k ≡ true) {i : Integer} (c : i ≡ integer_of (part h x)) where
+    module _ (y : x.kind ≡ Kind.Number) {i : Integer} (c : i ≡ integer_of (part h x.place)) where
       fmt_said : FactIs h s fmt_fact (pick Fmt.Absent Fmt.Wrong Fmt.Is (value_of i))
       unfolding fmt_fact plain
       fmt_said = record { is = says }
@@ -130,12 +129,12 @@ module _ {h : List ℕ} {s : Slot} where
 -- `typ` AND `cty`
 
 module _ {s : Slot} where
-  pub text_absent : s ≡ Absent → TextFactIs s Text.Absent
+  pub text_absent : s ≡ None → TextFactIs s Text.Absent
   unfolding text_fact
   text_absent e = record { is = λ h d o w. fact_absent Text.Absent Text.Wrong (λ _. Text.There) string o (shows_as e w) }
 
-  module _ {k : Kind} {x : Place} (e : s ≡ Is k x) where
-    pub text_there : is_string k ≡ true → TextFactIs s Text.There
+  module _ {x : Placed} (e : s ≡ Some x) where
+    pub text_there : x.kind ≡ Kind.String → TextFactIs s Text.There
     unfolding text_fact plain
     text_there y = record {
       is = λ h d o w.
@@ -144,15 +143,15 @@ module _ {s : Slot} where
           ∙ ap (λ (u : LValue). pick Text.Absent Text.Wrong (λ _. Text.There) (string (plain u))) (string_at (shown o v).stands y).1);
     }
 
-    pub text_wrong_lem : is_string k ≡ false → TextFactIs s Text.Wrong
+    pub text_wrong_lem : (x.kind ≡ Kind.String → ⊥) → TextFactIs s Text.Wrong
     unfolding text_fact
-    text_wrong_lem n = record { is = λ h d o w. fact_wrong Text.Absent Text.Wrong (λ _. Text.There) string o (shows_as e w) is_string asks_string n }
+    text_wrong_lem n = record { is = λ h d o w. fact_wrong Text.Absent Text.Wrong (λ _. Text.There) string o (shows_as e w) asks_string n }
 
 -- WHERE THE VALUES STAND
 
-module _ {h : List ℕ} {s : Slot} {k : Kind} {x : Place} (e : s ≡ Is k x) (w : ShownSomewhere h s) where
-  pub string_there : is_string k ≡ true → StringAt h x.start
+module _ {h : List ℕ} {s : Slot} {x : Placed} (e : s ≡ Some x) (w : ShownSomewhere h s) where
+  pub string_there : x.kind ≡ Kind.String → StringAt h x.place.start
   string_there y = let z = string_at (shown w.at.item (shows_as e w.at.shows)).stands y in (z.0, z.2)
 
-  pub number_there : is_number k ≡ true → (x.start ≤ length h) × (x.end ≤ length h)
+  pub number_there : x.kind ≡ Kind.Number → (x.place.start ≤ length h) × (x.place.end ≤ length h)
   number_there y = let z = number_at (shown w.at.item (shows_as e w.at.shows)).stands y in (z.1, z.2)

@@ -1,60 +1,78 @@
 -- A fact of the member that a slot shows: absent, wrong, or what the value says.
+use Rattle.std.specs.Prelude.{Some, None}
 use mathlib.Core.Path.{◌≡◌, refl, sym, ap, ◌∙◌}
-use mathlib.Core.Bool.{Bool, false, true≢false}
+use mathlib.Core.Bool.{Bool, true, false, not}
 use mathlib.Core.List.{List}
 use mathlib.Core.Option.{Option, none}
 use Prim.Native.Nat.{ℕ}
 use Rattle.json_grammar_rules.specs.Value.{Value, string_v, number_v, true_v, false_v, null_v, array_v, object_v, LItem, plain}
+use denote.Enum.Bare.{sameb, same_true, same_false, differs_true, differs_false}
+use Rattle.std.proofs.Common.{rules}
 use Rattle.json_grammar_rules.specs.declared.Kind.{Kind}
+use Rattle.json_grammar_rules.specs.contracts.Kind.{the_type}
 use Rattle.json_grammar_rules.specs.Places.{kind_of}
-use Rattle.json_rules.specs.declared.Place.{Place}
-use Rattle.json_members.specs.declared.slots.Slot.TheVariants.{Absent, Is}
-use Rattle.json_members.specs.Slots.{plain_of, Shows, is_string, is_number, is_array}
+use Rattle.json_members.specs.declared.places.Value.{Value as Placed}
+use Rattle.json_members.specs.Slots.{plain_of, Shows}
 use Rattle.json_members.specs.SlotLaws.{shown, not_shown, kind_no}
 use Rattle.jose_rules.specs.Members.{Meaning, string, strings, integer}
 use Rattle.jose_rules.specs.Facts.{pick, fact}
 
--- a value of a kind that `is` doesn't tell says nothing
-abbrev pub AsksFor : {A : Type 0} → (Kind → Bool) → Meaning A → Type 0
-AsksFor is says = (v : Value) → is (kind_of v) ≡ false → says v ≡ none
+-- A KIND COMPARED
 
-pub asks_string : AsksFor is_string string
-unfolding kind_of
-asks_string (string_v s) e = absurd (true≢false e)
-asks_string (number_v cs) e = refl
-asks_string true_v e = refl
-asks_string false_v e = refl
-asks_string null_v e = refl
-asks_string (array_v vs) e = refl
-asks_string (object_v ms) e = refl
+module _ {k c : Kind} {b : Bool} where
+  pub kind_same : b ≡ sameb the_type k c → b ≡ true → k ≡ c
+  kind_same e y = same_true the_type (search rules) k c (sym e ∙ y)
 
-pub asks_number : AsksFor is_number integer
-unfolding kind_of
-asks_number (string_v s) e = refl
-asks_number (number_v cs) e = absurd (true≢false e)
-asks_number true_v e = refl
-asks_number false_v e = refl
-asks_number null_v e = refl
-asks_number (array_v vs) e = refl
-asks_number (object_v ms) e = refl
+  pub kind_other : b ≡ sameb the_type k c → b ≡ false → k ≡ c → ⊥
+  kind_other e n = same_false the_type k c (sym e ∙ n)
 
-pub asks_array : AsksFor is_array strings
+  pub kind_differs : b ≡ not (sameb the_type k c) → b ≡ true → k ≡ c → ⊥
+  kind_differs e y = differs_true the_type k c (sym e ∙ y)
+
+  pub kind_agrees : b ≡ not (sameb the_type k c) → b ≡ false → k ≡ c
+  kind_agrees e n = differs_false the_type (search rules) k c (sym e ∙ n)
+
+-- a value of another kind than c says nothing
+abbrev pub AsksFor : {A : Type 0} → Kind → Meaning A → Type 0
+AsksFor c says = (v : Value) → (kind_of v ≡ c → ⊥) → says v ≡ none
+
+pub asks_string : AsksFor Kind.String string
 unfolding kind_of
-asks_array (string_v s) e = refl
-asks_array (number_v cs) e = refl
-asks_array true_v e = refl
-asks_array false_v e = refl
-asks_array null_v e = refl
-asks_array (array_v vs) e = absurd (true≢false e)
-asks_array (object_v ms) e = refl
+asks_string (string_v s) n = absurd (n refl)
+asks_string (number_v cs) n = refl
+asks_string true_v n = refl
+asks_string false_v n = refl
+asks_string null_v n = refl
+asks_string (array_v vs) n = refl
+asks_string (object_v ms) n = refl
+
+pub asks_number : AsksFor Kind.Number integer
+unfolding kind_of
+asks_number (string_v s) n = refl
+asks_number (number_v cs) n = absurd (n refl)
+asks_number true_v n = refl
+asks_number false_v n = refl
+asks_number null_v n = refl
+asks_number (array_v vs) n = refl
+asks_number (object_v ms) n = refl
+
+pub asks_array : AsksFor Kind.Array strings
+unfolding kind_of
+asks_array (string_v s) n = refl
+asks_array (number_v cs) n = refl
+asks_array true_v n = refl
+asks_array false_v n = refl
+asks_array null_v n = refl
+asks_array (array_v vs) n = absurd (n refl)
+asks_array (object_v ms) n = refl
 
 module _ {A F : Type 0} (n w : F) (f : A → F) (says : Meaning A) where
-  pub fact_absent : {h : List ℕ} {d : ℕ} (o : Option LItem) → Shows h d Absent o → n ≡ fact n w f says (plain_of o)
+  pub fact_absent : {h : List ℕ} {d : ℕ} (o : Option LItem) → Shows h d None o → n ≡ fact n w f says (plain_of o)
   fact_absent o s = sym (ap (fact n w f says) (not_shown o s))
 
-  module _ {h : List ℕ} {d : ℕ} {k : Kind} {x : Place} (o : Option LItem) (s : Shows h d (Is k x) o) where
+  module _ {h : List ℕ} {d : ℕ} {x : Placed} (o : Option LItem) (s : Shows h d (Some x) o) where
     pub fact_is : fact n w f says (plain_of o) ≡ pick n w f (says (plain (shown o s).value))
     fact_is = ap (fact n w f says) (shown o s).is
 
-    pub fact_wrong : (is : Kind → Bool) → AsksFor is says → is k ≡ false → w ≡ fact n w f says (plain_of o)
-    fact_wrong is asks e = sym (fact_is ∙ ap (pick n w f) (asks (plain (shown o s).value) (kind_no (shown o s).stands is e)))
+    pub fact_wrong : {c : Kind} → AsksFor c says → (x.kind ≡ c → ⊥) → w ≡ fact n w f says (plain_of o)
+    fact_wrong asks e = sym (fact_is ∙ ap (pick n w f) (asks (plain (shown o s).value) (kind_no (shown o s).stands e)))

@@ -1,8 +1,7 @@
 -- The known members as the code holds them, a slot for each name; and the facts of them together.
 use Rattle.std.specs.Prelude.{◌≡◌, List, ℕ}
 use Rattle.json_grammar_rules.specs.Value.{LMembers, plain_members}
-use Rattle.json_members.specs.declared.slots.Slot.{Slot}
-use Rattle.json_members.specs.Slots.{ShowsAll}
+use Rattle.json_members.specs.Slots.{Slot, ShowsAll}
 use Rattle.keytable_rules.specs.Key.{Key}
 use Rattle.jose_rules.specs.declared.Facts.{Facts}
 use Rattle.jose_rules.specs.Names.{alg, kid, typ, cty, crit, fmt}

@@ -1,7 +1,7 @@
 -- The known ones of the members that begin at a place: what `facts_of` asks for, and what it answers.
 use Rattle.std.specs.Prelude.{◌≡◌, List, ℕ}
 use Rattle.json_grammar_rules.specs.Value.{LMembers, plain_members}
-use Rattle.json_string.specs.declared.End.{End}
+use Rattle.json_string.specs.Ends.{End}
 use Rattle.json_members.specs.Members.{MembersFrom}
 use Rattle.json_members.specs.Slots.{ShowsAll, KnownFrom}
 use Rattle.keytable_rules.specs.Key.{Key}

@@ -4,9 +4,8 @@ use Rattle.std.proofs.Math.Option.{Option}
 use Rattle.json_grammar_rules.specs.Value.{Value, LItem, LItems, plain_items}
 use Rattle.json_characters.specs.Utf8.{utf8}
 use Rattle.json_string.specs.Strings.{NameAt}
-use Rattle.json_members.specs.declared.slots.Slot.{Slot}
 use Rattle.json_members.specs.Members.{ElementsAt}
-use Rattle.json_members.specs.Slots.{plain_of, Shows}
+use Rattle.json_members.specs.Slots.{Slot, plain_of, Shows}
 use Rattle.keytable_rules.specs.declared.Found.{Found}
 use Rattle.keytable_rules.specs.Key.{Key, find}
 use Rattle.jose_rules.specs.declared.Crit.{Crit}

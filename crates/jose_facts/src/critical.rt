@@ -3,27 +3,27 @@ ghost use Rattle.std.specs.Prelude.{◌≡◌, true, cond, ◌||◌, ◌<◌, le
 ghost use Rattle.jose_facts.specs.Says.{ShownAt, CritFactIs, NamesAt};
 
 use jose_rules::Crit;
-use json_members::{Slot, first_element, is_array, is_string, item_at};
-use json_string::{End, text_is};
+use json_members::{Kind, Value, first_element, item_at};
+use json_string::text_is;
 
 // The one name that is known. It is copied to be lent, as those in members.rt.
 const FMT: [u8; 3] = *b"fmt";
 
 // What `crit` says; `depth` is the depth left for its value.
-pub(crate) fn crit_of(text: &[u8], slot: Slot, depth: usize) -> Crit
+pub(crate) fn crit_of(text: &[u8], slot: Option<Value>, depth: usize) -> Crit
     requires { (0 < depth) × ShownAt text.now depth slot }
     ensures { CritFactIs text.now depth slot result }
 {
-    let Slot::Is(kind, place) = slot else {
+    let Some(value) = slot else {
         return Crit::Absent;
     };
-    if is_array(kind) {
-        return match first_element(text, place.start) {
-            End::At(from) => names_from(text, from, depth - 1),
-            End::Bad => Crit::Names(true, false),
-        };
+    if value.kind != Kind::Array {
+        return Crit::Wrong;
     }
-    Crit::Wrong
+    match first_element(text, value.place.start) {
+        Some(from) => names_from(text, from, depth - 1),
+        None => Crit::Names(true, false),
+    }
 }
 
 // The elements from `from` on, one after the other.
@@ -35,25 +35,20 @@ fn names_from(text: &[u8], from: usize, depth: usize) -> Crit
     let mut bad = false;
     let mut p = from;
     loop {
-        let i = item_at(text, p, depth);
-        let kind = i.kind;
-        if !is_string(kind) {
+        let Some(i) = item_at(text, p, depth) else {
+            return Crit::Wrong; // no element is read
+        };
+        if i.value.kind != Kind::String {
             return Crit::Wrong;
         }
-        let value = i.value;
         let known = FMT;
-        let is = text_is(text, value.start, &known);
+        let is = text_is(text, i.value.place.start, &known);
         bad = bad_with(is, listed, bad);
         listed = either(is, listed);
-        let next = i.next;
-        match next {
-            End::At(q) => {
-                p = q;
-            }
-            End::Bad => {
-                return Crit::Names(bad, listed);
-            }
-        }
+        let Some(next) = i.next else {
+            return Crit::Names(bad, listed);
+        };
+        p = next;
     }
 }
 

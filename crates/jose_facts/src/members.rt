@@ -3,8 +3,7 @@ ghost use Rattle.std.specs.Prelude.{◌<◌, length};
 ghost use Rattle.json_members.specs.Slots.{Within, NoneKnown, Noted, Walked, KnownFrom};
 ghost use Rattle.jose_facts.specs.Known.{name, slot};
 
-use json_members::{Entry, Slot, entry_at, taken};
-use json_string::End;
+use json_members::{Entry, Value, entry_at, taken};
 
 // The names. They are copied to be lent: a text that is lent itself would be data of the archive.
 const ALG: [u8; 3] = *b"alg";
@@ -21,23 +20,23 @@ const FMT: [u8; 3] = *b"fmt";
 
 #[derive(Clone, Copy)]
 pub struct Known {
-    pub alg: Slot,
-    pub kid: Slot,
-    pub typ: Slot,
-    pub cty: Slot,
-    pub crit: Slot,
-    pub fmt: Slot,
+    pub alg: Option<Value>,
+    pub kid: Option<Value>,
+    pub typ: Option<Value>,
+    pub cty: Option<Value>,
+    pub crit: Option<Value>,
+    pub fmt: Option<Value>,
 }
 
 // The known ones of the members that begin at `from`, if there are any; `depth` is the depth left for their values.
 // Rules out the members of the top object for those of an object within it, and the last member with a name for the first.
-pub fn known_from(text: &[u8], from: End, depth: usize) -> Known
+pub fn known_from(text: &[u8], from: Option<usize>, depth: usize) -> Known
     requires { Within text.now from }
     ensures { KnownFrom name slot text.now from depth result }
 {
     match from {
-        End::At(p) => walk(text, p, depth),
-        End::Bad => none_known(),
+        Some(p) => walk(text, p, depth),
+        None => none_known(),
     }
 }
 
@@ -49,17 +48,14 @@ fn walk(text: &[u8], from: usize, depth: usize) -> Known
     let mut known = none_known();
     let mut p = from;
     loop {
-        let m = entry_at(text, p, depth);
+        let Some(m) = entry_at(text, p, depth) else {
+            return known; // no member is read
+        };
         known = noted(text, p, m, known);
-        let next = m.next;
-        match next {
-            End::At(q) => {
-                p = q;
-            }
-            End::Bad => {
-                return known;
-            }
-        }
+        let Some(next) = m.next else {
+            return known;
+        };
+        p = next;
     }
 }
 
@@ -94,11 +90,11 @@ fn none_known() -> Known
     ensures { NoneKnown slot result }
 {
     Known {
-        alg: Slot::Absent,
-        kid: Slot::Absent,
-        typ: Slot::Absent,
-        cty: Slot::Absent,
-        crit: Slot::Absent,
-        fmt: Slot::Absent,
+        alg: None,
+        kid: None,
+        typ: None,
+        cty: None,
+        crit: None,
+        fmt: None,
     }
 }

@@ -6,22 +6,22 @@ ghost use Rattle.jose_facts.specs.Says.{ShownSomewhere, FactIs, TextFactIs, Stri
 
 use decimal::{Integer, parse};
 use jose_rules::{Alg, Fmt, Kid, Text};
-use json_members::{Slot, is_number, is_string, size};
-use json_string::{Resolved, resolve, text_is};
+use json_members::{Kind, Value};
+use json_string::{resolve, text_is};
 use keytable::{Found, find};
 
 // The one algorithm. Its name is copied to be lent, as those in members.rt.
 const HS256: [u8; 5] = *b"HS256";
 
-pub(crate) fn alg_of(text: &[u8], slot: Slot) -> Alg
+pub(crate) fn alg_of(text: &[u8], slot: Option<Value>) -> Alg
     ensures { FactIs text.now slot alg_fact result }
 {
-    let Slot::Is(kind, place) = slot else {
+    let Some(value) = slot else {
         return Alg::Absent;
     };
-    if is_string(kind) {
+    if value.kind == Kind::String {
         let word = HS256;
-        if text_is(text, place.start, &word) {
+        if text_is(text, value.place.start, &word) {
             return Alg::HS256;
         }
         return Alg::Other;
@@ -29,15 +29,15 @@ pub(crate) fn alg_of(text: &[u8], slot: Slot) -> Alg
     Alg::Wrong
 }
 
-pub(crate) fn kid_of(text: &[u8], slot: Slot, table: &[u8]) -> Kid
+pub(crate) fn kid_of(text: &[u8], slot: Option<Value>, table: &[u8]) -> Kid
     requires { (bad_table table.now ≡ false) × ShownSomewhere text.now slot }
     ensures { FactIs text.now slot (kid_fact (keys table.now)) result }
 {
-    let Slot::Is(kind, place) = slot else {
+    let Some(value) = slot else {
         return Kid::Absent;
     };
-    if is_string(kind) {
-        let found = named_key(text, place.start, table);
+    if value.kind == Kind::String {
+        let found = named_key(text, value.place.start, table);
         return match found {
             Found::At(index) => Kid::Key(index),
             Found::Nothing => Kid::Unknown,
@@ -53,34 +53,34 @@ fn named_key(text: &[u8], start: usize, table: &[u8]) -> Found
 {
     let mut id = [0u8; 64];
     match resolve(text, start, &mut id) {
-        Resolved::Bytes(n) => find(table, &id[0..n]),
-        Resolved::Nothing => Found::Nothing,
+        Some(n) => find(table, &id[0..n]),
+        None => Found::Nothing,
     }
 }
 
 // `typ` and `cty`.
-pub(crate) fn text_of(slot: Slot) -> Text
+pub(crate) fn text_of(slot: Option<Value>) -> Text
     ensures { TextFactIs slot result }
 {
-    let Slot::Is(kind, _) = slot else {
+    let Some(value) = slot else {
         return Text::Absent;
     };
-    if is_string(kind) {
+    if value.kind == Kind::String {
         return Text::There;
     }
     Text::Wrong
 }
 
-pub(crate) fn fmt_of(text: &[u8], slot: Slot) -> Fmt
+pub(crate) fn fmt_of(text: &[u8], slot: Option<Value>) -> Fmt
     requires { ShownSomewhere text.now slot }
     ensures { FactIs text.now slot fmt_fact result }
 {
-    let Slot::Is(kind, place) = slot else {
+    let Some(value) = slot else {
         return Fmt::Absent;
     };
-    if is_number(kind) {
-        let start = place.start;
-        let end = start + size(place);
+    if value.kind == Kind::Number {
+        let start = value.place.start;
+        let end = start + value.place.size();
         return match parse(&text[start..end]) {
             Integer::Is(number) => Fmt::Is(number),
             Integer::No => Fmt::Wrong,

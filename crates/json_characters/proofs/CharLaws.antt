@@ -1,20 +1,19 @@
 -- Laws of the character at a place, by its first byte.
+use Rattle.std.specs.Prelude.{None}
 use mathlib.Core.Path.{◌≡◌, sym, ap, subst}
 use mathlib.Core.List.{List}
 use Prim.Native.Nat.{ℕ, ◌+◌, ◌≤◌, ◌<◌}
 use lib.ListN.{length, get_or, drop_of_length-le}
 use Rattle.json_grammar_rules.specs.Bytes.{within}
 use Rattle.json_grammar_rules.specs.Reader.{Got, is_unescaped1, char_lead, read_escape, read_char}
-use Rattle.json_characters.specs.declared.Scan.{Scan}
-use Rattle.json_characters.specs.declared.Scan.TheVariants.{Wrong}
-use Rattle.json_characters.specs.Characters.{Scans, char_at, CharAt}
+use Rattle.json_characters.specs.Characters.{Scan, Scans, char_at, CharAt}
 use Rattle.json_characters.specs.CharacterLaws.{char_is}
 use Rattle.json_characters.specs.Places.{at_byte}
 use Rattle.json_characters.specs.Steps.{ScanAt, FormAt}
 
-pub char_out : (s : List ℕ) (at : ℕ) → length s ≤ at → Wrong ≡ char_at s at
+pub char_out : (s : List ℕ) (at : ℕ) → length s ≤ at → None ≡ char_at s at
 unfolding CharAt read_char
-char_out s at h = char_is s at Wrong (ap read_char (drop_of_length-le s h))
+char_out s at h = char_is s at None (ap read_char (drop_of_length-le s h))
 
 module _ (s : List ℕ) (at : ℕ) (h : at < length s) where
   pub char_form : (r : Scan) → FormAt (get_or s at 0) s (at + 1) r → r ≡ char_at s at

@@ -1,4 +1,5 @@
 -- Laws of digits that are read one by one, as the tails of a form and the digits of an escape are; and of the room that they need.
+use Rattle.std.specs.Prelude.{Some, None}
 use mathlib.Core.Path.{◌≡◌}
 use mathlib.Core.Bool.{Bool, true, false}
 use mathlib.Core.List.{List}
@@ -6,8 +7,7 @@ use Prim.Native.Nat.{ℕ, zero, suc, ◌+◌, ◌-◌, ◌*◌, ◌/◌, ◌≤�
 use native.Mathlib.Nat.{suc-mul, mul-le-mul_right, div-mul-le_self, div-le_self}
 use native.Mathlib.Omega.{arith}
 use lib.ListN.{length, get_or}
-use Rattle.json_characters.specs.declared.Scan.{Scan}
-use Rattle.json_characters.specs.declared.Scan.TheVariants.{Code, Wrong}
+use Rattle.json_characters.specs.Characters.{Scan}
 use Rattle.json_characters.specs.Steps.{ScanAt, read_digits}
 use Rattle.json_characters.proofs.ScanLaws.{scan_got, scan_one, scan_not, scan_out}
 
@@ -20,17 +20,17 @@ module _ (p q : ℕ → Bool) (b : ℕ) (v : ℕ → ℕ) (s : List ℕ) (at : �
       let m : suc n - 1 ≡ n = omega arith in
       scan_one p (λ c l. read_digits q q b v n (x * b + v c) l) s at r h e (rw (← f) (rw m at rest))
 
-  pub digits_not : (n x : ℕ) → 0 < n → at < length s → p (get_or s at 0) ≡ false → ScanAt (read_digits p q b v n x) s at Wrong
+  pub digits_not : (n x : ℕ) → 0 < n → at < length s → p (get_or s at 0) ≡ false → ScanAt (read_digits p q b v n x) s at None
   unfolding read_digits
   digits_not zero x o h e = absurd (omega arith)
   digits_not (suc n) x o h e = scan_not p (λ c l. read_digits q q b v n (x * b + v c) l) s at h e
 
-  pub digits_out : (n x : ℕ) → 0 < n → length s ≤ at → ScanAt (read_digits p q b v n x) s at Wrong
+  pub digits_out : (n x : ℕ) → 0 < n → length s ≤ at → ScanAt (read_digits p q b v n x) s at None
   unfolding read_digits
   digits_out zero x o h = absurd (omega arith)
   digits_out (suc n) x o h = scan_out p (λ c l. read_digits q q b v n (x * b + v c) l) s at h
 
-  pub digits_done : (n x : ℕ) → n ≤ 0 → at ≤ length s → ScanAt (read_digits p q b v n x) s at (Code x at)
+  pub digits_done : (n x : ℕ) → n ≤ 0 → at ≤ length s → ScanAt (read_digits p q b v n x) s at (Some (x, at))
   unfolding read_digits
   digits_done zero x o h = scan_got s at x h
   digits_done (suc n) x o h = absurd (omega arith)

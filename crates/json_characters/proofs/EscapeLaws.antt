@@ -1,4 +1,5 @@
 -- Laws of escapes.
+use Rattle.std.specs.Prelude.{Some, None}
 use mathlib.Core.Path.{◌≡◌, refl, sym, ap, ◌∙◌, subst}
 use mathlib.Core.Bool.{Bool, true, false}
 use mathlib.Core.List.{List, [], ◌∷◌}
@@ -9,11 +10,9 @@ use lib.ListN.{length, drop, get_or, length-drop, drop_of_length-le}
 use borrow.Author.Tests.{eq-eqb, ne_eqb}
 use Rattle.json_grammar_rules.specs.Bytes.{is_hex, hex_val, hex4, all_hex, is_high, is_low, pair_code}
 use Rattle.json_grammar_rules.specs.Reader.{Got, bad, got, then, one, one_by, read_hex, low_by, read_low, unicode_by, read_unicode, EscapeLead, short_lead, escape_lead_of, escape_by, read_escape}
-use Rattle.json_characters.specs.declared.Scan.{Scan}
-use Rattle.json_characters.specs.declared.Scan.TheVariants.{Code, Wrong}
 use Rattle.json_characters.specs.Places.{at_byte}
 use Rattle.json_grammar_rules.proofs.ByteLaws.{within_true}
-use Rattle.json_characters.specs.Characters.{Scans}
+use Rattle.json_characters.specs.Characters.{Scan, Scans}
 use Rattle.json_characters.specs.Steps.{ScanAt, ShortEscape, read_digits}
 use Rattle.json_characters.proofs.ScanLaws.{scans_from, scan_same, scan_got, scan_after, scan_one, scan_not, scan_then, scan_none}
 
@@ -52,7 +51,7 @@ four_digits (a ∷ b ∷ c ∷ d ∷ s) = go (is_hex a) (is_hex b) (is_hex c) (i
 pub hex_digits : (s : List ℕ) (at : ℕ) (r : Scan) → ScanAt (read_hexes 4 0) s at r → ScanAt read_hex s at r
 hex_digits s at r h = scan_same read_hex (read_hexes 4 0) s at r four_digits h
 
-pub hex_short : (s : List ℕ) (at : ℕ) → length s - at < 4 → ScanAt read_hex s at Wrong
+pub hex_short : (s : List ℕ) (at : ℕ) → length s - at < 4 → ScanAt read_hex s at None
 unfolding ScanAt
 hex_short s at h = four_digits (drop at s) ∙ short_digits 4 0 (drop at s) (rw (length-drop at s) h)
 
@@ -62,7 +61,7 @@ abbrev low_half : ℕ → List ℕ → Got ℕ
 low_half h l = then (read_hex l) (λ x r. low_by (is_low x) h x r)
 
 module _ (s : List ℕ) (at h : ℕ) where
-  pub low_short : length s - at < 2 → ScanAt (read_low h) s at Wrong
+  pub low_short : length s - at < 2 → ScanAt (read_low h) s at None
   unfolding ScanAt
   low_short k = go (drop at s) (rw (length-drop at s) k)
     where
@@ -75,15 +74,15 @@ module _ (s : List ℕ) (at h : ℕ) where
           by false = refl
       go (a ∷ b ∷ l) k = absurd (omega arith)
 
-  pub low_no_escape : at < length s → (get_or s at 0 ≡ 0x5C → ⊥) → ScanAt (read_low h) s at Wrong
+  pub low_no_escape : at < length s → (get_or s at 0 ≡ 0x5C → ⊥) → ScanAt (read_low h) s at None
   low_no_escape k n = scan_not (λ b. eqb b 0x5C) (λ _ r. one (λ b. eqb b 0x75) r (λ _ q. low_half h q)) s at k (ne_eqb (get_or s at 0) 0x5C n)
 
   module _ (k : at + 1 < length s) (e : get_or s at 0 ≡ 0x5C) where
     after_escape : (r : Scan) → ScanAt (λ l. one (λ b. eqb b 0x75) l (λ _ q. low_half h q)) s (at + 1) r → ScanAt (read_low h) s at r
     after_escape r rest = scan_one (λ b. eqb b 0x5C) (λ _ r. one (λ b. eqb b 0x75) r (λ _ q. low_half h q)) s at r (omega arith) (eq-eqb (get_or s at 0) 0x5C e) rest
 
-    pub low_no_u : (get_or s (at + 1) 0 ≡ 0x75 → ⊥) → ScanAt (read_low h) s at Wrong
-    low_no_u n = after_escape Wrong (scan_not (λ b. eqb b 0x75) (λ _ q. low_half h q) s (at + 1) k (ne_eqb (get_or s (at + 1) 0) 0x75 n))
+    pub low_no_u : (get_or s (at + 1) 0 ≡ 0x75 → ⊥) → ScanAt (read_low h) s at None
+    low_no_u n = after_escape None (scan_not (λ b. eqb b 0x75) (λ _ q. low_half h q) s (at + 1) k (ne_eqb (get_or s (at + 1) 0) 0x75 n))
 
     module _ (f : get_or s (at + 1) 0 ≡ 0x75) where
       after_u : (r : Scan) → ScanAt (low_half h) s (at + 2) r → ScanAt (read_low h) s at r
@@ -91,36 +90,36 @@ module _ (s : List ℕ) (at h : ℕ) where
           let m : at + 2 ≡ at + 1 + 1 = omega arith in
           after_escape r (scan_one (λ b. eqb b 0x75) (λ _ q. low_half h q) s (at + 1) r k (eq-eqb (get_or s (at + 1) 0) 0x75 f) (rw m at rest))
 
-      pub low_no_hex : ScanAt read_hex s (at + 2) Wrong → ScanAt (read_low h) s at Wrong
-      low_no_hex d = after_u Wrong (scan_none read_hex (λ x r. low_by (is_low x) h x r) s (at + 2) d)
+      pub low_no_hex : ScanAt read_hex s (at + 2) None → ScanAt (read_low h) s at None
+      low_no_hex d = after_u None (scan_none read_hex (λ x r. low_by (is_low x) h x r) s (at + 2) d)
 
-      low_by_hex : (x e : ℕ) (r : Scan) → ScanAt read_hex s (at + 2) (Code x e) → ScanAt (low_by (is_low x) h x) s e r → ScanAt (read_low h) s at r
+      low_by_hex : (x e : ℕ) (r : Scan) → ScanAt read_hex s (at + 2) (Some (x, e)) → ScanAt (low_by (is_low x) h x) s e r → ScanAt (read_low h) s at r
       low_by_hex x e r d rest = after_u r (scan_then read_hex (λ x r. low_by (is_low x) h x r) s (at + 2) x e r d rest)
 
-      pub low_is : (x e y : ℕ) → ScanAt read_hex s (at + 2) (Code x e) → is_low x ≡ true → y ≡ pair_code h x → ScanAt (read_low h) s at (Code y e)
-      low_is x e y d i g = low_by_hex x e (Code y e) d (rw (i, g) (scan_got s e (pair_code h x) (scan_after read_hex s (at + 2) x e d).1))
+      pub low_is : (x e y : ℕ) → ScanAt read_hex s (at + 2) (Some (x, e)) → is_low x ≡ true → y ≡ pair_code h x → ScanAt (read_low h) s at (Some (y, e))
+      low_is x e y d i g = low_by_hex x e (Some (y, e)) d (rw (i, g) (scan_got s e (pair_code h x) (scan_after read_hex s (at + 2) x e d).1))
 
-      pub low_not : (x e : ℕ) → ScanAt read_hex s (at + 2) (Code x e) → is_low x ≡ false → ScanAt (read_low h) s at Wrong
+      pub low_not : (x e : ℕ) → ScanAt read_hex s (at + 2) (Some (x, e)) → is_low x ≡ false → ScanAt (read_low h) s at None
       unfolding ScanAt
-      low_not x e d i = low_by_hex x e Wrong d (rw i refl)
+      low_not x e d i = low_by_hex x e None d (rw i refl)
 
 module _ (s : List ℕ) (at : ℕ) where
-  pub unicode_no_hex : ScanAt read_hex s at Wrong → ScanAt read_unicode s at Wrong
+  pub unicode_no_hex : ScanAt read_hex s at None → ScanAt read_unicode s at None
   unicode_no_hex d = scan_none read_hex (λ x r. unicode_by (is_high x) (is_low x) x r) s at d
 
-  module _ (x e : ℕ) (d : ScanAt read_hex s at (Code x e)) where
+  module _ (x e : ℕ) (d : ScanAt read_hex s at (Some (x, e))) where
     by_hex : (r : Scan) → ScanAt (unicode_by (is_high x) (is_low x) x) s e r → ScanAt read_unicode s at r
     by_hex r rest = scan_then read_hex (λ x r. unicode_by (is_high x) (is_low x) x r) s at x e r d rest
 
     pub unicode_high : (r : Scan) → is_high x ≡ true → ScanAt (read_low x) s e r → ScanAt read_unicode s at r
     unicode_high r i rest = by_hex r (rw i rest)
 
-    pub unicode_low : is_high x ≡ false → is_low x ≡ true → ScanAt read_unicode s at Wrong
+    pub unicode_low : is_high x ≡ false → is_low x ≡ true → ScanAt read_unicode s at None
     unfolding ScanAt
-    unicode_low i j = by_hex Wrong (rw (i, j) refl)
+    unicode_low i j = by_hex None (rw (i, j) refl)
 
-    pub unicode_is : is_high x ≡ false → is_low x ≡ false → ScanAt read_unicode s at (Code x e)
-    unicode_is i j = by_hex (Code x e) (rw (i, j) (scan_got s e x (scan_after read_hex s at x e d).1))
+    pub unicode_is : is_high x ≡ false → is_low x ≡ false → ScanAt read_unicode s at (Some (x, e))
+    unicode_is i j = by_hex (Some (x, e)) (rw (i, j) (scan_got s e x (scan_after read_hex s at x e d).1))
 
 -- the code point of a pair fits, and is made without a difference below 0
 pub pair_high : (h : ℕ) → is_high h ≡ true → (0xD800 ≤ h) × (h ≤ 0xDBFF)
@@ -133,12 +132,12 @@ pair_low x e = within_true 0xDC00 0xDFFF x e
 
 -- ESCAPES OF ONE BYTE, AND ALL
 
-pub short_is : (b x c next : ℕ) → b ≡ x → escape_lead_of x ≡ short_lead c → ShortEscape b next (Code c next)
+pub short_is : (b x c next : ℕ) → b ≡ x → escape_lead_of x ≡ short_lead c → ShortEscape b next (Some (c, next))
 unfolding ShortEscape
 short_is b x c next e f s h = (omega arith, h, ap (λ (l : EscapeLead). escape_by l (drop next s)) (ap escape_lead_of e ∙ f))
 
 pub short_none : (b next : ℕ) → (b ≡ 0x75 → ⊥) → (b ≡ 0x22 → ⊥) → (b ≡ 0x5C → ⊥) → (b ≡ 0x2F → ⊥) → (b ≡ 0x62 → ⊥) → (b ≡ 0x66 → ⊥) → (b ≡ 0x6E → ⊥) → (b ≡ 0x72 → ⊥) → (b ≡ 0x74 → ⊥)
-    → ShortEscape b next Wrong
+    → ShortEscape b next None
 unfolding ShortEscape escape_lead_of
 short_none b next u a₁ a₂ a₃ a₄ a₅ a₆ a₇ a₈ s h =
     rw (ne_eqb b 0x22 a₁, ne_eqb b 0x5C a₂, ne_eqb b 0x2F a₃, ne_eqb b 0x62 a₄, ne_eqb b 0x66 a₅, ne_eqb b 0x6E a₆, ne_eqb b 0x72 a₇, ne_eqb b 0x74 a₈, ne_eqb b 0x75 u)
@@ -157,6 +156,6 @@ pub escape_short : (s : List ℕ) (at : ℕ) (r : Scan) → at < length s → Sh
 unfolding ShortEscape ScanAt
 escape_short s at r h k = escape_rest s at r h (k s (omega arith))
 
-pub escape_out : (s : List ℕ) (at : ℕ) → length s ≤ at → ScanAt read_escape s at Wrong
+pub escape_out : (s : List ℕ) (at : ℕ) → length s ≤ at → ScanAt read_escape s at None
 unfolding ScanAt
 escape_out s at h = ap read_escape (drop_of_length-le s h)

@@ -1,4 +1,5 @@
 -- Laws of the forms of several octets.
+use Rattle.std.specs.Prelude.{None}
 use mathlib.Core.Path.{◌≡◌, refl, ap}
 use mathlib.Core.Bool.{Bool, true, false}
 use mathlib.Core.List.{List, [], ◌∷◌}
@@ -7,8 +8,7 @@ use native.Mathlib.Omega.{arith}
 use borrow.Author.Tests.{ne_eqb}
 use Rattle.json_grammar_rules.specs.Bytes.{within, is_tail, code2, code3, code4}
 use Rattle.json_grammar_rules.specs.Reader.{Got, got, one, one_by, is_unescaped1, CharLead, lead2, lead3, lead4, no_char, char_lead, char_by, read_two, read_three, read_four}
-use Rattle.json_characters.specs.declared.Scan.{Scan}
-use Rattle.json_characters.specs.declared.Scan.TheVariants.{Wrong}
+use Rattle.json_characters.specs.Characters.{Scan}
 use Rattle.json_grammar_rules.proofs.ByteLaws.{within_true, above}
 use Rattle.json_characters.specs.Steps.{ScanAt, FormAt, read_digits, read_tails}
 use Rattle.json_characters.proofs.ScanLaws.{scan_same}
@@ -110,7 +110,7 @@ module _ (s : List ℕ) (at b : ℕ) where
       f h
 
   pub form_none : is_unescaped1 b ≡ false → (b ≡ 0x5C → ⊥) → within 0xC2 0xDF b ≡ false → (b ≡ 0xE0 → ⊥) → (b ≡ 0xED → ⊥) → within 0xE1 0xEF b ≡ false
-      → (b ≡ 0xF0 → ⊥) → (b ≡ 0xF4 → ⊥) → within 0xF1 0xF3 b ≡ false → FormAt b s at Wrong
+      → (b ≡ 0xF0 → ⊥) → (b ≡ 0xF4 → ⊥) → within 0xF1 0xF3 b ≡ false → FormAt b s at None
   unfolding char_lead ScanAt
   form_none a₁ a₂ a₃ a₄ a₅ a₆ a₇ a₈ a₉ =
-      row no_char s at b Wrong (rw (a₁, ne_eqb b 0x5C a₂, a₃, ne_eqb b 0xE0 a₄, ne_eqb b 0xED a₅, a₆, ne_eqb b 0xF0 a₇, ne_eqb b 0xF4 a₈, a₉)) refl
+      row no_char s at b None (rw (a₁, ne_eqb b 0x5C a₂, a₃, ne_eqb b 0xE0 a₄, ne_eqb b 0xED a₅, a₆, ne_eqb b 0xF0 a₇, ne_eqb b 0xF4 a₈, a₉)) refl

@@ -2,8 +2,7 @@
 use Rattle.std.specs.Prelude.{Bool, List, ℕ, zero, suc, ◌+◌, ◌-◌, ◌*◌, ◌≤◌, length, drop}
 use Rattle.json_grammar_rules.specs.Bytes.{within}
 use Rattle.json_grammar_rules.specs.Reader.{Got, got, one, char_by, char_lead, escape_by, escape_lead_of}
-use Rattle.json_characters.specs.Characters.{Scans}
-use Rattle.json_characters.specs.declared.Scan.{Scan}
+use Rattle.json_characters.specs.Characters.{Scan, Scans}
 
 -- r is what the reader f gives at a place
 unfoldable pub ScanAt : (List ℕ → Got ℕ) → List ℕ → ℕ → Scan → Type 0

@@ -4,16 +4,15 @@ ghost use Rattle.json_grammar_rules.specs.Bytes.{is_high};
 ghost use Rattle.json_grammar_rules.specs.Reader.{read_hex, read_low, read_unicode, read_escape};
 ghost use Rattle.json_characters.specs.Steps.{ScanAt, ShortEscape};
 
-use crate::Scan;
 use crate::classes::{between32, hex_val, is_hex};
 
 // Four hexadecimal digits.
-fn hex(s: &[u8], from: usize) -> Scan
+fn hex(s: &[u8], from: usize) -> Option<(u32, usize)>
     requires { from ≤ length s.now }
     ensures { ScanAt read_hex s.now from result }
 {
     if s.len() - from < 4 {
-        return Scan::Wrong;
+        return None;
     }
     let mut at = from;
     let mut left: usize = 4;
@@ -25,72 +24,68 @@ fn hex(s: &[u8], from: usize) -> Scan
             at += 1;
             left -= 1;
         } else {
-            return Scan::Wrong;
+            return None;
         }
     }
-    Scan::Code(code, at)
+    Some((code, at))
 }
 
 // The escaped low surrogate, from DC00 to DFFF, that must follow the high surrogate `high`.
-fn low(s: &[u8], at: usize, high: u32) -> Scan
+fn low(s: &[u8], at: usize, high: u32) -> Option<(u32, usize)>
     requires { (at ≤ length s.now) × (is_high high ≡ true) }
     ensures { ScanAt (read_low high) s.now at result }
 {
     if s.len() - at < 2 {
-        return Scan::Wrong;
+        return None;
     }
     if s[at] != 0x5C {
-        return Scan::Wrong;
+        return None;
     }
     if s[at + 1] != 0x75 {
-        return Scan::Wrong;
+        return None;
     }
-    let Scan::Code(x, next) = hex(s, at + 2) else {
-        return Scan::Wrong;
-    };
+    let (x, next) = hex(s, at + 2)?;
     if between32(0xDC00, 0xDFFF, x) {
-        return Scan::Code(0x10000 + (high - 0xD800) * 1024 + (x - 0xDC00), next);
+        return Some((0x10000 + (high - 0xD800) * 1024 + (x - 0xDC00), next));
     }
-    Scan::Wrong
+    None
 }
 
 // What follows `\u`: four digits; those of a high surrogate, from D800 to DBFF, are followed directly by a low one, which never stands alone.
-fn unicode(s: &[u8], at: usize) -> Scan
+fn unicode(s: &[u8], at: usize) -> Option<(u32, usize)>
     requires { at ≤ length s.now }
     ensures { ScanAt read_unicode s.now at result }
 {
-    let Scan::Code(x, next) = hex(s, at) else {
-        return Scan::Wrong;
-    };
+    let (x, next) = hex(s, at)?;
     if between32(0xD800, 0xDBFF, x) {
         return low(s, next, x);
     }
     if between32(0xDC00, 0xDFFF, x) {
-        return Scan::Wrong;
+        return None;
     }
-    Scan::Code(x, next)
+    Some((x, next))
 }
 
 // The escapes of one byte; `next` is the place after it.
-fn short(b: u8, next: usize) -> Scan
+fn short(b: u8, next: usize) -> Option<(u32, usize)>
     requires { b ≡ 0x75 → ⊥ }
     ensures { ShortEscape b next result }
 {
     match b {
-        0x22 => Scan::Code(0x22, next),
-        0x5C => Scan::Code(0x5C, next),
-        0x2F => Scan::Code(0x2F, next),
-        0x62 => Scan::Code(0x08, next),
-        0x66 => Scan::Code(0x0C, next),
-        0x6E => Scan::Code(0x0A, next),
-        0x72 => Scan::Code(0x0D, next),
-        0x74 => Scan::Code(0x09, next),
-        _ => Scan::Wrong,
+        0x22 => Some((0x22, next)),
+        0x5C => Some((0x5C, next)),
+        0x2F => Some((0x2F, next)),
+        0x62 => Some((0x08, next)),
+        0x66 => Some((0x0C, next)),
+        0x6E => Some((0x0A, next)),
+        0x72 => Some((0x0D, next)),
+        0x74 => Some((0x09, next)),
+        _ => None,
     }
 }
 
 // What follows a reverse solidus.
-pub(crate) fn escape(s: &[u8], at: usize) -> Scan
+pub(crate) fn escape(s: &[u8], at: usize) -> Option<(u32, usize)>
     requires { at ≤ length s.now }
     ensures { ScanAt read_escape s.now at result }
 {
@@ -101,5 +96,5 @@ pub(crate) fn escape(s: &[u8], at: usize) -> Scan
         }
         return short(b, at + 1);
     }
-    Scan::Wrong
+    None
 }

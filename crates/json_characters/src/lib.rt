@@ -9,10 +9,3 @@ mod characters; // characters.rt: the character at a place
 pub use characters::char_at;
 pub use classes::{between, is_unescaped1};
 pub use utf8::{Octets, octets_of};
-
-// What stands at a place: a character's code point and the place after it, or no character.
-#[derive(Clone, Copy)]
-pub enum Scan {
-    Code(u32, usize),
-    Wrong,
-}

@@ -5,12 +5,11 @@ ghost use Rattle.json_characters.specs.Octets.{octets_in};
 ghost use Rattle.json_characters.specs.Steps.{ScanAt, read_tails, FormAt};
 ghost use Rattle.json_characters.specs.Utf8.{tail};
 
-use crate::Scan;
 use crate::classes::between;
 use common::wide;
 
 // The n octets of a form after its first, of which x has the bits; the second octet lies from lo to hi.
-fn tails(s: &[u8], from: usize, n: usize, lo: u8, hi: u8, x: u32) -> Scan
+fn tails(s: &[u8], from: usize, n: usize, lo: u8, hi: u8, x: u32) -> Option<(u32, usize)>
     requires { (from ≤ length s.now) × (n ≤ 3) × (0x80 ≤ lo) × (hi ≤ 0xBF) × (x < 32) }
     ensures { ScanAt (read_tails n lo hi x) s.now from result }
 {
@@ -29,17 +28,17 @@ fn tails(s: &[u8], from: usize, n: usize, lo: u8, hi: u8, x: u32) -> Scan
                 low = 0x80;
                 high = 0xBF;
             } else {
-                return Scan::Wrong;
+                return None;
             }
         } else {
-            return Scan::Wrong;
+            return None;
         }
     }
-    Scan::Code(code, at)
+    Some((code, at))
 }
 
 // The octets after the first octet b of a form; each row gives the bounds of the second (RFC 3629 section 4).
-pub(crate) fn form(s: &[u8], at: usize, b: u8) -> Scan
+pub(crate) fn form(s: &[u8], at: usize, b: u8) -> Option<(u32, usize)>
     requires { (at ≤ length s.now) × (is_unescaped1 b ≡ false) × (b ≡ 0x5C → ⊥) }
     ensures { FormAt b s.now at result }
 {
@@ -64,7 +63,7 @@ pub(crate) fn form(s: &[u8], at: usize, b: u8) -> Scan
     if between(0xF1, 0xF3, b) {
         return tails(s, at, 3, 0x80, 0xBF, wide(b - 0xF0));
     }
-    Scan::Wrong
+    None
 }
 
 // The octets of a code point: the first `count` of `bytes`.

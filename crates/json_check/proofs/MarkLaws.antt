@@ -1,4 +1,5 @@
 -- The next mark of a text: a law for each way through `next_mark`.
+use Rattle.std.specs.Prelude.{Option, Some, None}
 use mathlib.Core.Path.{◌≡◌, sym, ap, ◌∙◌, subst}
 use mathlib.Core.Bool.{Bool, true, false}
 use mathlib.Core.List.{List, [], ◌∷◌, ◌++◌}
@@ -12,12 +13,11 @@ use Rattle.json_grammar_rules.specs.Reader.{ws, read_chars}
 use Rattle.json_grammar_rules.specs.Scan.{opens, closes, colon_next, marks_name, marks_string, marks}
 use Rattle.json_grammar_rules.specs.Scan as scan
 use Rattle.json_grammar_rules.proofs.ScanLaws.{marks_front, marks_none}
-use Rattle.json_string.specs.declared.End.TheVariants.{At, Bad}
 use Rattle.json_string.specs.Ends.{at_byte, left, shorter, fuel, ends_at, ends_bad}
 use Rattle.json_string.specs.Strings.{NameAt, StringEnds}
 use Rattle.json_tokens.specs.Tokens.{SkipsTo}
 use Rattle.json_check.specs.declared.marks.Mark.{Mark}
-use Rattle.json_check.specs.declared.marks.Mark.TheVariants.{Opens, Closes, Name, Nothing}
+use Rattle.json_check.specs.declared.marks.Mark.TheVariants.{Opens, Closes, Name}
 use Rattle.json_check.specs.Marks.{Shows, NameShown, NoMarks, MarkAt}
 
 -- A COLON
@@ -39,16 +39,16 @@ shows_on a b = record {
 }
 
 -- what has no marks is passed over
-pub past : (s : List ℕ) (p e : ℕ) → Shows s p e [] → (r : Mark) → MarkAt s e r → MarkAt s p r
+pub past : (s : List ℕ) (p e : ℕ) → Shows s p e [] → (r : Option Mark) → MarkAt s e r → MarkAt s p r
 unfolding MarkAt
-past s p e a (Opens f) h = shows_on a h
-past s p e a (Closes f) h = shows_on a h
-past s p e a (Name q f) h = record { text = h.text; stands = h.stands; shows = shows_on a h.shows }
-past s p e a Nothing h = record { is = λ n l. let i = a.is n l in i.2 ∙ h.is i.0 i.1 }
+past s p e a (Some (Opens f)) h = shows_on a h
+past s p e a (Some (Closes f)) h = shows_on a h
+past s p e a (Some (Name q f)) h = record { text = h.text; stands = h.stands; shows = shows_on a h.shows }
+past s p e a None h = record { is = λ n l. let i = a.is n l in i.2 ∙ h.is i.0 i.1 }
 
 -- NOTHING IS LEFT
 
-pub nothing_left : (s : List ℕ) (at : ℕ) → length s ≤ at → MarkAt s at Nothing
+pub nothing_left : (s : List ℕ) (at : ℕ) → length s ≤ at → MarkAt s at None
 unfolding MarkAt
 nothing_left s at h = record { is = λ n l. ap (marks n) (drop_of_length-le s h) ∙ marks_none n }
 
@@ -64,11 +64,11 @@ module _ (s : List ℕ) (at : ℕ) (h : at < length s) where
         λ m j. (m, j, ap (marks (suc m)) (at_byte s at h) ∙ k m);
   }
 
-  pub opening : get_or s at 0 ≡ 0x7B → MarkAt s at (Opens (at + 1))
+  pub opening : get_or s at 0 ≡ 0x7B → MarkAt s at (Some (Opens (at + 1)))
   unfolding MarkAt marks
   opening b = byte (opens ∷ []) (λ n. rw b)
 
-  pub closing : get_or s at 0 ≡ 0x7D → MarkAt s at (Closes (at + 1))
+  pub closing : get_or s at 0 ≡ 0x7D → MarkAt s at (Some (Closes (at + 1)))
   unfolding MarkAt marks
   closing b = byte (closes ∷ []) (λ n. rw b)
 
@@ -81,7 +81,7 @@ module _ (s : List ℕ) (at : ℕ) (h : at < length s) where
   first : {b : ℕ} → get_or s at 0 ≡ b → drop at s ≡ b ∷ drop (at + 1) s
   first e = at_byte s at h ∙ ap (λ (x : ℕ). x ∷ drop (at + 1) s) e
 
-  pub broken : get_or s at 0 ≡ 0x22 → StringEnds s (at + 1) Bad → MarkAt s at Nothing
+  pub broken : get_or s at 0 ≡ 0x22 → StringEnds s (at + 1) None → MarkAt s at None
   unfolding StringEnds MarkAt marks
   broken b k = record {
     is = λ n l.
@@ -89,7 +89,7 @@ module _ (s : List ℕ) (at : ℕ) (h : at < length s) where
         λ m j. ap (marks (suc m)) (first b) ∙ ap (marks_string (λ y. marks m y)) (ends_bad s (at + 1) (read_chars m (drop (at + 1) s)) (k m j));
   }
 
-  module _ (e : ℕ) {t : Bool} (b : get_or s at 0 ≡ 0x22) (k : StringEnds s (at + 1) (At e)) (c : t ≡ colon_next (ws (drop e s))) where
+  module _ (e : ℕ) {t : Bool} (b : get_or s at 0 ≡ 0x22) (k : StringEnds s (at + 1) (Some e)) (c : t ≡ colon_next (ws (drop e s))) where
     string : (cs : List ℕ) × NameAt s (at + 1) cs × Shows s at e (marks_name t cs [])
     unfolding StringEnds NameAt marks
     string =
@@ -113,7 +113,7 @@ module _ (s : List ℕ) (at : ℕ) (h : at < length s) where
           },
         )
 
-    pub named : t ≡ true → MarkAt s at (Name (at + 1) e)
+    pub named : t ≡ true → MarkAt s at (Some (Name (at + 1) e))
     unfolding MarkAt
     named z = let i = string in record { text = i.0; stands = i.1; shows = subst (λ (u : Bool). Shows s at e (marks_name u i.0 [])) z i.2 }
 
@@ -122,22 +122,22 @@ module _ (s : List ℕ) (at : ℕ) (h : at < length s) where
 
 -- THE ANSWER THAT WAS GIVEN
 
-module _ (s : List ℕ) (p : ℕ) {x : Mark} (h : MarkAt s p x) where
-  told : {y : Mark} → x ≡ y → MarkAt s p y
-  told e = subst (λ (z : Mark). MarkAt s p z) e h
+module _ (s : List ℕ) (p : ℕ) {x : Option Mark} (h : MarkAt s p x) where
+  told : {y : Option Mark} → x ≡ y → MarkAt s p y
+  told e = subst (λ (z : Option Mark). MarkAt s p z) e h
 
-  pub name_told : {q e : ℕ} → x ≡ Name q e → NameShown s p q e
+  pub name_told : {m : Mark} {q e : ℕ} → x ≡ Some m → m ≡ Name q e → NameShown s p q e
   unfolding MarkAt
-  name_told e = told e
+  name_told e f = told (e ∙ ap Some f)
 
-  pub opens_told : {e : ℕ} → x ≡ Opens e → Shows s p e (opens ∷ [])
+  pub opens_told : {m : Mark} {e : ℕ} → x ≡ Some m → m ≡ Opens e → Shows s p e (opens ∷ [])
   unfolding MarkAt
-  opens_told e = told e
+  opens_told e f = told (e ∙ ap Some f)
 
-  pub closes_told : {e : ℕ} → x ≡ Closes e → Shows s p e (closes ∷ [])
+  pub closes_told : {m : Mark} {e : ℕ} → x ≡ Some m → m ≡ Closes e → Shows s p e (closes ∷ [])
   unfolding MarkAt
-  closes_told e = told e
+  closes_told e f = told (e ∙ ap Some f)
 
-  pub nothing_told : x ≡ Nothing → NoMarks s p
+  pub none_told : x ≡ None → NoMarks s p
   unfolding MarkAt
-  nothing_told e = told e
+  none_told e = told e

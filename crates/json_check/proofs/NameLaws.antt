@@ -9,10 +9,9 @@ use lib.ListN.{length, drop, get_or, set}
 use Rattle.json_grammar_rules.specs.Value.{among}
 use Rattle.json_grammar_rules.specs.Scan.{opens, closes, marks, around, beyond, search, every, no_more}
 use Rattle.json_grammar_rules.proofs.ScanLaws.{search_parts}
-use Rattle.json_string.specs.declared.End.TheVariants.{At, Bad}
 use Rattle.json_string.specs.Strings.{same_text, fingerprint_at}
 use Rattle.json_check.specs.declared.names.Search.{Search}
-use Rattle.json_check.specs.declared.names.Search.TheVariants.{Twice, Past}
+use Rattle.json_check.specs.declared.names.Search.TheVariants.{Twice, Once, Unfinished}
 use Rattle.json_check.specs.Marks.{Shows, NameShown, NoMarks}
 use Rattle.json_check.specs.Twice.{Finds, none, Held, outermost, Holds, Meets, TwiceFrom, Searched}
 use Rattle.json_check.proofs.StackLaws.{held_names, held_low, held_name, held_opens, held_bare, held_closes, Without, found}
@@ -126,7 +125,7 @@ module _ {s : List ℕ} {from : ℕ} {a m : List ℕ} {j k p : ℕ} (fl : Fillin
       agrees = λ r f. fl.agrees r (finds_closes b o h f);
     }
 
-  pub filling_last : NoMarks s p → Searched s from (Past Bad)
+  pub filling_last : NoMarks s p → Searched s from Once
   unfolding Searched
   filling_last h = fl.agrees false (finds_none b o h)
 
@@ -139,7 +138,7 @@ module _ {s : List ℕ} {from : ℕ} {a m : List ℕ} {j k p : ℕ} (fl : Fillin
     unfolding Searched
     filling_met e = fl.agrees true (parts_met (met e))
 
-    pub filling_past : t ≡ false → 0 < k → Searched s from (Past (At p))
+    pub filling_past : t ≡ false → 0 < k → Searched s from (Unfinished p)
     unfolding Searched
     filling_past e l = (omega (arith, fl.low), fl.high, λ r f. fl.agrees r (parts_past (met e) r f))
 
@@ -263,12 +262,6 @@ module _ {s a m : List ℕ} {top n from j k i p : ℕ} (mt : Meeting s a m top n
 
 -- PASS BY PASS
 
--- the places that are left to a search
-abbrev pub left : List ℕ → Search → ℕ
-left s Twice = 0
-left s (Past Bad) = 0
-left s (Past (At q)) = suc (length s - q)
-
 module _ (s : List ℕ) (p : ℕ) {x : Search} (h : Searched s p x) where
   searched : {y : Search} → x ≡ y → Searched s p y
   searched e = subst (λ (z : Search). Searched s p z) e h
@@ -277,21 +270,11 @@ module _ (s : List ℕ) (p : ℕ) {x : Search} (h : Searched s p x) where
   unfolding Searched
   twice e = searched e
 
-  pub once : x ≡ Past Bad → TwiceFrom s p false
+  pub once : x ≡ Once → TwiceFrom s p false
   unfolding Searched
   once e = searched e
 
-  past : {q : ℕ} → x ≡ Past (At q) → (p < q) × (q ≤ length s) × ((r : Bool) → TwiceFrom s q r → TwiceFrom s p r)
-  unfolding Searched
-  past e = searched e
-
   -- a search that goes on at q
-  module _ {q : ℕ} (e : x ≡ Past (At q)) where
-    pub within_text : q ≤ length s
-    within_text = (past e).1
-
-    pub on : (y : Search) → Searched s q y → Searched s p y × (left s y < left s x)
-    unfolding Searched
-    on Twice k = ((past e).2 true k, rw e (omega arith))
-    on (Past Bad) k = ((past e).2 false k, rw e (omega arith))
-    on (Past (At z)) k = ((omega (arith, (past e).0, k.0), k.1, λ r f. (past e).2 r (k.2 r f)), rw e (omega (arith, k.0, k.1)))
+  pub unfinished : {q : ℕ} → x ≡ Unfinished q → (p < q) × (q ≤ length s) × ((r : Bool) → TwiceFrom s q r → TwiceFrom s p r)
+  unfolding Searched
+  unfinished e = searched e

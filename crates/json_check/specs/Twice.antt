@@ -1,10 +1,9 @@
 -- Names that stand twice in one object: the search by passes that keep some names.
 use Rattle.std.specs.Prelude.{◌≡◌, Bool, true, false, List, [], ◌∷◌, ℕ, suc, ◌≤◌, ◌<◌, length, drop, get_or}
 use Rattle.json_grammar_rules.specs.Scan.{marks, search, every, no_more}
-use Rattle.json_string.specs.declared.End.TheVariants.{At, Bad}
 use Rattle.json_string.specs.Strings.{NameAt, fingerprint_at}
 use Rattle.json_check.specs.declared.names.Search.{Search}
-use Rattle.json_check.specs.declared.names.Search.TheVariants.{Twice, Past}
+use Rattle.json_check.specs.declared.names.Search.TheVariants.{Twice, Once, Unfinished}
 
 -- what the search says from p on, with the names b of the innermost object and o of those around it
 pub record Finds (kept : List ℕ → List (List ℕ) → List (List ℕ)) (s : List ℕ) (p : ℕ) (b : List (List ℕ)) (o : List (List (List ℕ))) (r : Bool) : Type 0 where
@@ -36,8 +35,8 @@ pub record Meets (s a m : List ℕ) (j k p : ℕ) (r : Bool) : Type 0 where
 abbrev pub TwiceFrom : List ℕ → ℕ → Bool → Type 0
 TwiceFrom s p r = Finds every s p [] [] r
 
--- what a pass says of it: one has; or one has from the next pass's place on; or none has
+-- what a pass says of it: one has; none has; or one has if one has from the next pass's place on
 unfoldable pub Searched : List ℕ → ℕ → Search → Type 0
 Searched s p Twice = TwiceFrom s p true
-Searched s p (Past (At q)) = (p < q) × (q ≤ length s) × ((r : Bool) → TwiceFrom s q r → TwiceFrom s p r)
-Searched s p (Past Bad) = TwiceFrom s p false
+Searched s p Once = TwiceFrom s p false
+Searched s p (Unfinished q) = (p < q) × (q ≤ length s) × ((r : Bool) → TwiceFrom s q r → TwiceFrom s p r)

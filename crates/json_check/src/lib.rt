@@ -6,22 +6,23 @@ mod names; // names.rt: names that stand twice in one object
 
 ghost use Rattle.std.specs.Prelude.{◌≡◌};
 ghost use Rattle.common.specs.First.{first};
+ghost use Rattle.answers.specs.Numbers.{answer};
 ghost use Rattle.json_rules.specs.Tests.{grammar_tests};
 
 use crate::names::twice_from;
-use answers::{DONE, NAME_TWICE, NOT_DERIVED};
+use answers::Refusal;
 use json_reader::text;
 
 // What a text of any length answers: 7 if the grammar doesn't derive it within the depth; 8 if an object in it has a name twice; 0 if it is read.
 // Rules out 8 for a text that breaks off after two equal names, and 0 for two names that are equal after their escapes are resolved.
-pub fn check_text(s: &[u8], depth: usize) -> u8
-    ensures { result ≡ first (grammar_tests depth s.now) }
+pub fn check_text(s: &[u8], depth: usize) -> Result<(), Refusal>
+    ensures { answer result ≡ first (grammar_tests depth s.now) }
 {
-    if text(s, depth) {
-        if twice_from(s, 0) {
-            return NAME_TWICE;
-        }
-        return DONE;
+    if !text(s, depth) {
+        return Err(Refusal::NotDerived);
     }
-    NOT_DERIVED
+    if twice_from(s, 0) {
+        return Err(Refusal::NameTwice);
+    }
+    Ok(())
 }

@@ -4,16 +4,15 @@ ghost use Rattle.json_grammar_rules.specs.Reader.{ws};
 ghost use Rattle.json_grammar_rules.specs.Scan.{colon_next};
 ghost use Rattle.json_check.specs.Marks.{MarkAt};
 
-use json_string::{End, string_end};
+use json_string::string_end;
 use json_tokens::skip_ws;
 
-// The next mark, and the place after it: a brace, or a name by the place of its first character; or nothing is left.
-#[derive(Clone, Copy)]
+// A mark, and the place after it: a brace, or a name by the place of its first character.
+#[derive(Clone, Copy, Debug, PartialEq, Eq)]
 pub enum Mark {
     Opens(usize),
     Closes(usize),
     Name(usize, usize),
-    Nothing,
 }
 
 // Whether a colon comes next, past white space.
@@ -27,9 +26,9 @@ fn colon_next(s: &[u8], from: usize) -> bool
     false
 }
 
-// The first mark from `from` on: a brace outside strings, or a string that a colon follows.
+// The first mark from `from` on, if there is one: a brace outside strings, or a string that a colon follows.
 // Rules out a brace in a string taken for an object, and a value taken for a name.
-pub(crate) fn next_mark(s: &[u8], from: usize) -> Mark
+pub(crate) fn next_mark(s: &[u8], from: usize) -> Option<Mark>
     requires { from ≤ length s.now }
     ensures { MarkAt s.now from result }
 {
@@ -37,22 +36,20 @@ pub(crate) fn next_mark(s: &[u8], from: usize) -> Mark
     while at < s.len() {
         let b = s[at];
         if b == 0x22 {
-            let End::At(e) = string_end(s, at + 1) else {
-                return Mark::Nothing; // no closing quotation mark
-            };
+            let e = string_end(s, at + 1)?;
             if colon_next(s, e) {
-                return Mark::Name(at + 1, e);
+                return Some(Mark::Name(at + 1, e));
             }
             at = e;
         } else {
             if b == 0x7B {
-                return Mark::Opens(at + 1);
+                return Some(Mark::Opens(at + 1));
             }
             if b == 0x7D {
-                return Mark::Closes(at + 1);
+                return Some(Mark::Closes(at + 1));
             }
             at += 1;
         }
     }
-    Mark::Nothing
+    None
 }

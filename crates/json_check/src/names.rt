@@ -4,13 +4,15 @@ ghost use Rattle.std.specs.Prelude.{◌≤◌, length};
 ghost use Rattle.json_check.specs.Twice.{Holds, Meets, Searched, TwiceFrom};
 
 use crate::marks::{Mark, next_mark};
-use json_string::{End, fingerprint, same_by_fingerprint};
+use json_string::{fingerprint, same_by_fingerprint};
 
-// What a pass found: two equal names; or none is equal to one that it kept, and a next pass begins where it had no more room, if it hadn't.
-#[derive(Clone, Copy)]
+// What a pass found: two equal names; none in all of the text; or none that is equal to one that it kept, and the place where it had no more
+// room, from which a next pass goes on.
+#[derive(Clone, Copy, Debug, PartialEq, Eq)]
 pub enum Search {
     Twice,
-    Past(End),
+    Once,
+    Unfinished(usize),
 }
 
 // Compares each name from `from` on with those before it in its object, and keeps it, while there is room.
@@ -30,11 +32,10 @@ fn pass(s: &[u8], from: usize) -> Search
             if meets(s, &names, &prints, base, at) {
                 return Search::Twice;
             }
-            return Search::Past(End::At(at));
+            return Search::Unfinished(at);
         }
-        let mark = next_mark(s, at);
-        match mark {
-            Mark::Name(p, next) => {
+        match next_mark(s, at) {
+            Some(Mark::Name(p, next)) => {
                 let print = fingerprint(s, p);
                 let mut i = base;
                 while i < count {
@@ -48,13 +49,13 @@ fn pass(s: &[u8], from: usize) -> Search
                 count += 1;
                 at = next;
             }
-            Mark::Opens(next) => {
+            Some(Mark::Opens(next)) => {
                 names[count] = base;
                 count += 1;
                 base = count;
                 at = next;
             }
-            Mark::Closes(next) => {
+            Some(Mark::Closes(next)) => {
                 if base == 0 {
                     count = 0;
                 } else {
@@ -63,8 +64,8 @@ fn pass(s: &[u8], from: usize) -> Search
                 }
                 at = next;
             }
-            Mark::Nothing => {
-                return Search::Past(End::Bad);
+            None => {
+                return Search::Once;
             }
         }
     }
@@ -81,9 +82,8 @@ fn meets(s: &[u8], names: &[usize; 64], prints: &[u64; 64], top: usize, from: us
     let mut inner: usize = 0; // objects that have opened since, and are open
     let mut at = from;
     'pairs: loop {
-        let mark = next_mark(s, at);
-        match mark {
-            Mark::Name(p, next) => {
+        match next_mark(s, at) {
+            Some(Mark::Name(p, next)) => {
                 if inner == 0 {
                     let print = fingerprint(s, p);
                     let mut i = base;
@@ -96,11 +96,11 @@ fn meets(s: &[u8], names: &[usize; 64], prints: &[u64; 64], top: usize, from: us
                 }
                 at = next;
             }
-            Mark::Opens(next) => {
+            Some(Mark::Opens(next)) => {
                 inner += 1;
                 at = next;
             }
-            Mark::Closes(next) => {
+            Some(Mark::Closes(next)) => {
                 if inner > 0 {
                     inner -= 1;
                 } else if base == 0 {
@@ -111,7 +111,7 @@ fn meets(s: &[u8], names: &[usize; 64], prints: &[u64; 64], top: usize, from: us
                 }
                 at = next;
             }
-            Mark::Nothing => {
+            None => {
                 return false;
             }
         }
@@ -125,20 +125,18 @@ pub(crate) fn twice_from(s: &[u8], from: usize) -> bool
     requires { from ≤ length s.now }
     ensures { TwiceFrom s.now from result }
 {
-    let mut found = pass(s, from);
+    let mut at = from;
     loop {
-        match found {
+        match pass(s, at) {
             Search::Twice => {
                 return true;
             }
-            Search::Past(rest) => match rest {
-                End::At(q) => {
-                    found = pass(s, q);
-                }
-                End::Bad => {
-                    return false;
-                }
-            },
+            Search::Once => {
+                return false;
+            }
+            Search::Unfinished(next) => {
+                at = next;
+            }
         }
     }
 }

@@ -2,7 +2,7 @@
 #![tactic(auto)]
 
 // The seven kinds of value.
-#[derive(Clone, Copy)]
+#[derive(Clone, Copy, Debug, PartialEq, Eq)]
 pub enum Kind {
     String,
     Number,

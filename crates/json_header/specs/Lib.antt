@@ -1,2 +1,3 @@
--- What the walk to member k picks.
+-- What the code answers, and what the walk to member k picks.
+pub mod Shown
 pub mod Picks

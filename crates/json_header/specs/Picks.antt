@@ -3,8 +3,7 @@ use Rattle.std.specs.Prelude.{◌≡◌, List, ℕ}
 use Rattle.json_grammar_rules.specs.Value.{LMembers}
 use Rattle.json_grammar_rules.specs.Places.{member}
 use Rattle.json_members.specs.Members.{MembersAt}
-use Rattle.json_rules.specs.declared.Member.{Member}
-use Rattle.json_rules.specs.Answers.{answer_for}
+use Rattle.json_rules.specs.Answers.{Member, answer_for}
 
 -- r is the answer for member k of the members at p
 pub record Picks (s : List ℕ) (p d k : ℕ) (r : Member) : Type 0 where

@@ -16,10 +16,8 @@ use Rattle.json_grammar_rules.specs.Reader.{Got, got, read}
 use Rattle.json_grammar_rules.proofs.Readings.{plain_of}
 use Rattle.json_grammar_rules.proofs.Complete.{complete}
 use Rattle.json_grammar_rules.proofs.Written.{longer, white, token, member}
-use Rattle.json_rules.specs.declared.Member.{Member}
-use Rattle.json_rules.specs.declared.Member.TheVariants.{Refused}
 use Rattle.json_rules.specs.Rules.{longest, deepest, count, header_rules, DerivedOnce}
-use Rattle.json_rules.specs.Answers.{number_of}
+use Rattle.json_rules.specs.Answers.{Member, Refused, number_of}
 use Rattle.json_rules.specs.Tests.{members_in, checked, member_of, Read}
 use Rattle.json_rules.proofs.Promises.{derivation, header_none, header_range, refused, member_past, member_found, unread}
 use Rattle.json_rules.proofs.Demand3.{read_exactly}

@@ -1,11 +1,10 @@
 -- Members and elements that stand at places of a text, and what a step over one of them gives.
-use Rattle.std.specs.Prelude.{◌≡◌, List, ℕ, ◌+◌, ◌-◌, ◌≤◌, ◌<◌, length, take, drop}
+use Rattle.std.specs.Prelude.{◌≡◌, List, ℕ, ◌+◌, ◌-◌, ◌≤◌, ◌<◌, length, take, drop, Some, None}
 use Rattle.json_grammar_rules.specs.Value.{LValue, LItems, LMembers, string_l, number_l, true_l, false_l, null_l, array_l, object_l, item, inil, icons, named, lnil, lcons, plain}
 use Rattle.json_grammar_rules.specs.declared.Kind.{Kind}
 use Rattle.json_grammar_rules.specs.Places.{kind_of, margin, pos}
 use Rattle.json_grammar_rules.specs.Reader.{Got, got, read, read_object}
-use Rattle.json_string.specs.declared.End.{End}
-use Rattle.json_string.specs.declared.End.TheVariants.{At, Bad}
+use Rattle.json_string.specs.Ends.{End}
 use Rattle.json_string.specs.Strings.{NameAt}
 use Rattle.json_reader.specs.Reads.{read_members, read_elements, read_array}
 use Rattle.json_rules.specs.declared.Place.{Place}
@@ -23,8 +22,8 @@ pub record ReadsAt {A : Type 0} (reader : ℕ → List ℕ → Got A) (s : List 
 
 -- the same from a place on, or nothing
 abbrev pub ReadsFrom : {A : Type 0} → (ℕ → List ℕ → Got A) → A → List ℕ → End → A → Type 0
-ReadsFrom reader nothing s (At p) a = ReadsAt reader s p a
-ReadsFrom reader nothing s Bad a = a ≡ nothing
+ReadsFrom reader nothing s (Some p) a = ReadsAt reader s p a
+ReadsFrom reader nothing s None a = a ≡ nothing
 
 -- members and a closing brace, elements and a closing bracket; d is the depth left for their values
 abbrev pub MembersAt : List ℕ → ℕ → ℕ → LMembers → Type 0
@@ -49,16 +48,16 @@ ArrayAt s p d vs = ReadsAt (λ n x. read_array n d x) s p vs
 -- THE FIRST ONE
 
 pub record FirstMember (s : List ℕ) (brace : ℕ) (r : End) : Type 0 where
-  pub within : (p : ℕ) → r ≡ At p → p < length s
+  pub within : (p : ℕ) → r ≡ Some p → p < length s
   pub is : (d : ℕ) (ms : LMembers) → ObjectAt s (brace + 1) d ms → MembersFrom s (d - 1) r ms
 
 pub record FirstElement (s : List ℕ) (bracket : ℕ) (r : End) : Type 0 where
-  pub within : (p : ℕ) → r ≡ At p → p < length s
+  pub within : (p : ℕ) → r ≡ Some p → p < length s
   pub is : (d : ℕ) (vs : LItems) → ArrayAt s (bracket + 1) d vs → ElementsFrom s (d - 1) r vs
 
 -- of the top object of a text that is read within the depth d
 pub record TopMembers (s : List ℕ) (r : End) : Type 0 where
-  pub within : (p : ℕ) → r ≡ At p → p < length s
+  pub within : (p : ℕ) → r ≡ Some p → p < length s
   pub is : (d : ℕ) (ms : LMembers) (x : List ℕ) → read d s ≡ got ms x → MembersFrom s (d - 1) r ms
 
 -- ONE STEP
@@ -92,12 +91,12 @@ pub record NameIs (s : List ℕ) (x : Place) (f t n : List ℕ) : Type 0 where
 
 -- r is the element at p: of whatever elements stand there, the first; and the others stand where r says
 pub record ItemAt (s : List ℕ) (p d : ℕ) (r : Item) : Type 0 where
-  pub later : (q : ℕ) → r.next ≡ At q → (p < q) × (q < length s)
+  pub later : (q : ℕ) → r.next ≡ Some q → (p < q) × (q < length s)
   pub is : (a b : List ℕ) (v : LValue) (vs : LItems) → ElementsAt s p d (icons (item a b v) vs)
-      → ValueIs s d r.kind r.value a b v × ElementsFrom s d r.next vs
+      → ValueIs s d r.value.kind r.value.place a b v × ElementsFrom s d r.next vs
 
 -- r is the member at p, likewise
 pub record EntryAt (s : List ℕ) (p d : ℕ) (r : Entry) : Type 0 where
-  pub later : (q : ℕ) → r.next ≡ At q → (p < q) × (q < length s)
+  pub later : (q : ℕ) → r.next ≡ Some q → (p < q) × (q < length s)
   pub is : (f t n a b : List ℕ) (v : LValue) (ms : LMembers) → MembersAt s p d (lcons (named f t n (item a b v)) ms)
-      → NameIs s r.name f t n × ValueIs s d r.kind r.value a b v × MembersFrom s d r.next ms
+      → NameIs s r.name f t n × ValueIs s d r.value.kind r.value.place a b v × MembersFrom s d r.next ms

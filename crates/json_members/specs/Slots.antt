@@ -1,16 +1,13 @@
 -- Slots: of the first member with a name, the kind and the place of its value, or that it is absent; and a walk over an object's members that
 -- fills a slot for each of some names.
-use Rattle.std.specs.Prelude.{◌≡◌, Bool, true, false, cond, List, ℕ, ◌+◌, ◌-◌, ◌<◌, length}
+use Rattle.std.specs.Prelude.{◌≡◌, Bool, true, false, cond, List, ℕ, ◌+◌, ◌<◌, length, Some, None}
+use Rattle.std.specs.Prelude.{Option as Perhaps}
 use Rattle.std.proofs.Math.Option.{Option, none, some}
 use Rattle.common.specs.Same.{same}
 use Rattle.json_grammar_rules.specs.Value.{Value, LItem, LMembers, item, named, lnil, lcons, plain_item}
-use Rattle.json_grammar_rules.specs.declared.Kind.{Kind}
-use Rattle.json_string.specs.declared.End.{End}
-use Rattle.json_string.specs.declared.End.TheVariants.{At}
+use Rattle.json_string.specs.Ends.{End}
 use Rattle.json_string.specs.Strings.{NameAt, text_is}
-use Rattle.json_rules.specs.declared.Place.{Place}
-use Rattle.json_members.specs.declared.slots.Slot.{Slot}
-use Rattle.json_members.specs.declared.slots.Slot.TheVariants.{Absent, Is}
+use Rattle.json_members.specs.declared.places.Value.{Value as Placed}
 use Rattle.json_members.specs.declared.steps.Entry.{Entry}
 use Rattle.json_members.specs.Members.{MembersAt, MembersFrom, ValueIs}
 
@@ -26,51 +23,27 @@ abbrev pub plain_of : Option LItem → Option Value
 plain_of none = none
 plain_of (some i) = some (plain_item i)
 
+-- of a member that is looked for: the kind and the place of its value, or none
+abbrev pub Slot : Type 0
+Slot = Perhaps Placed
+
 -- the slot has the kind and the place of the value in the text h; d is the depth left for it
 abbrev pub ShowsAs : List ℕ → ℕ → Slot → Option LItem → Type 0
-ShowsAs h d Absent none = Unit {0}
-ShowsAs h d Absent (some i) = ⊥
-ShowsAs h d (Is k x) none = ⊥
-ShowsAs h d (Is k x) (some (item a b v)) = ValueIs h d k x a b v
+ShowsAs h d None none = Unit {0}
+ShowsAs h d None (some i) = ⊥
+ShowsAs h d (Some x) none = ⊥
+ShowsAs h d (Some x) (some (item a b v)) = ValueIs h d x.kind x.place a b v
 
 pub record Shows (h : List ℕ) (d : ℕ) (s : Slot) (o : Option LItem) : Type 0 where
   pub has : ShowsAs h d s o
-
-abbrev pub is_there : Slot → Bool
-is_there Absent = false
-is_there (Is k x) = true
-
--- KINDS AND PLACES
-
--- of a string, a number, an array; false of any other kind
-abbrev pub by_kind : Bool → Bool → Bool → Kind → Bool
-by_kind string number array Kind.String = string
-by_kind string number array Kind.Number = number
-by_kind string number array Kind.True = false
-by_kind string number array Kind.False = false
-by_kind string number array Kind.Null = false
-by_kind string number array Kind.Array = array
-by_kind string number array Kind.Object = false
-
-abbrev pub is_string : Kind → Bool
-is_string k = by_kind true false false k
-
-abbrev pub is_number : Kind → Bool
-is_number k = by_kind false true false k
-
-abbrev pub is_array : Kind → Bool
-is_array k = by_kind false false true k
-
-abbrev pub size_of : Place → ℕ
-size_of x = x.end - x.start
 
 -- ONE STEP
 
 -- a slot after the member m, which has its name or not
 abbrev pub taken_by : Bool → Entry → Slot → Slot
-taken_by b m (Is k x) = Is k x
-taken_by true m Absent = Is m.kind m.value
-taken_by false m Absent = Absent
+taken_by b m (Some x) = Some x
+taken_by true m None = Some m.value
+taken_by false m None = None
 
 -- .. which stands at p, where the slot is that of the word w
 abbrev pub taken_at : List ℕ → ℕ → Entry → List ℕ → Slot → Slot
@@ -78,7 +51,7 @@ taken_at h p m w s = taken_by (text_is h (p + 1) w) m s
 
 -- a place in the text, or none
 pub record Within (h : List ℕ) (r : End) : Type 0 where
-  pub at : (p : ℕ) → r ≡ At p → p < length h
+  pub at : (p : ℕ) → r ≡ Some p → p < length h
 
 -- THE WALK OVER THE MEMBERS, with a slot for each w of W in a record of type S
 
@@ -101,4 +74,4 @@ module _ {W S : Type 0} (name : W → List ℕ) (slot : W → S → Slot) where
 
 -- no slot shows a member
 abbrev pub NoneKnown : {W S : Type 0} → (W → S → Slot) → S → Type 0
-NoneKnown {W} slot m = (w : W) → slot w m ≡ Absent
+NoneKnown {W} slot m = (w : W) → slot w m ≡ None

@@ -1,5 +1,5 @@
 -- Laws of the steps: where members or elements stand, a step gives the first of them and says where the others stand.
-use Rattle.std.specs.Prelude.{◌≡◌, Bool, take, get_or}
+use Rattle.std.specs.Prelude.{◌≡◌, Bool, take, get_or, Some, None}
 use Rattle.std.proofs.Math.Path.{refl, sym, ap, subst}
 use Rattle.std.proofs.Common.{ap₂, ◌∙◌, arith, sub-one, eqb-true}
 use Rattle.std.proofs.Math.Bool.{true, false}
@@ -7,7 +7,7 @@ use mathlib.Core.List.{List, [], ◌∷◌}
 use Prim.Native.Nat.{ℕ, zero, suc, ◌+◌, ◌-◌, ◌≤◌, ◌<◌}
 use Rattle.std.proofs.Math.Dec.{eqb}
 use Rattle.std.proofs.Math.ListN.{length, drop, length-drop}
-use Rattle.json_grammar_rules.specs.Value.{LValue, LItem, LItems, LMember, LMembers, string_l, number_l, true_l, false_l, null_l, array_l, object_l, item, icons, named, lcons, plain}
+use Rattle.json_grammar_rules.specs.Value.{LValue, LItem, LItems, LMember, LMembers, string_l, number_l, true_l, false_l, null_l, array_l, object_l, item, inil, icons, named, lnil, lcons, plain}
 use Rattle.json_grammar_rules.specs.declared.Kind.{Kind}
 use Rattle.json_grammar_rules.specs.Places.{kind_of, margin, pos}
 use Rattle.json_grammar_rules.specs.Reader.{Got, bad, got, deeper, ws, word, up_to, value_by_lem, read_chars, read_number, past_number, read_value, read_more_members, read_more_elements, read_object}
@@ -17,9 +17,7 @@ use Rattle.json_grammar_rules.proofs.Sequences.{Sequence, sequence, members, ele
 use Rattle.json_grammar_rules.specs.Levels.{read_bare, read_member}
 use Rattle.json_grammar_rules.proofs.Endings.{Ending, shorter_ending, at_ending, ending_of, ending_drop, ending_byte, ending_ws, ValueRead, value_read, name_ends, colon_ends}
 use Rattle.json_grammar_rules.proofs.Fuel.{value_fuel, member_fuel}
-use Rattle.json_string.specs.declared.End.{End}
-use Rattle.json_string.specs.declared.End.TheVariants.{At, Bad}
-use Rattle.json_string.specs.Ends.{at_byte}
+use Rattle.json_string.specs.Ends.{End, at_byte}
 use Rattle.json_string.specs.Strings.{NameAt}
 use Rattle.json_reader.specs.Reads.{read_trimmed, read_array, kind_by}
 use Rattle.json_reader.specs.ValueLaws.{trimmed_kind}
@@ -28,11 +26,15 @@ use Rattle.json_rules.specs.Answers.{place}
 use Rattle.json_members.specs.declared.steps.Item.{Item}
 use Rattle.json_members.specs.declared.steps.Entry.{Entry}
 use Rattle.json_members.specs.Members.{ReadsAt, ReadsFrom, MembersAt, MembersFrom, ElementsAt, ElementsFrom, FirstMember, FirstElement, TopMembers, part, Holds, ValueIs, NameIs, ItemAt, EntryAt}
+use Rattle.json_members.specs.MemberLaws.{no_members, no_elements}
 use Rattle.json_members.specs.Steps.{first_in, first_member, first_element, top_in, top_members, start_in, next_in, item_by, item_in, item_at, entry_by, entry_in, entry_at}
 
--- Bad is no place
-pub never : {B : Type 0} {q : ℕ} → Bad ≡ At q → B
+-- nowhere is no place
+pub never : {A B : Type 0} {q : A} → None ≡ Some q → B
 never e = absurd (let z : ◌≡◌ {A = ℕ} 0 1 = cc in omega arith)
+
+some_is : {A : Type 0} {a b : A} → Some a ≡ Some b → a ≡ b
+some_is e = cc
 
 -- WHERE A SEQUENCE STANDS, once for members and elements
 
@@ -83,12 +85,12 @@ module _ {A B : Type 0} {nothing : A} {cons : B → A → A} {one : ℕ → ℕ 
 
 -- WHERE THE ANSWERS LIE
 
-start_within : (s x : List ℕ) (p : ℕ) → length x ≤ length s → start_in s x ≡ At p → (p < length s) × (pos s x ≡ p)
+start_within : (s x : List ℕ) (p : ℕ) → length x ≤ length s → start_in s x ≡ Some p → (p < length s) × (pos s x ≡ p)
 unfolding start_in pos
 start_within s [] p l e = never e
 start_within s (b ∷ x) p l e = let z : pos s (b ∷ x) ≡ p = cc in (omega arith, z)
 
-first_within : (close : ℕ) (s x : List ℕ) (p : ℕ) → length x ≤ length s → first_in close s x ≡ At p → p < length s
+first_within : (close : ℕ) (s x : List ℕ) (p : ℕ) → length x ≤ length s → first_in close s x ≡ Some p → p < length s
 unfolding first_in start_in
 first_within close s [] p l e = never e
 first_within close s (b ∷ x) p l e = go (eqb b close) refl
@@ -97,7 +99,7 @@ first_within close s (b ∷ x) p l e = go (eqb b close) refl
     go true h = never (rw h at e)
     go false h = (start_within s (b ∷ x) p l (rw h at e)).0
 
-next_later : (s y : List ℕ) (q : ℕ) → length y ≤ length s → next_in s y ≡ At q → (pos s y < q) × (q < length s)
+next_later : (s y : List ℕ) (q : ℕ) → length y ≤ length s → next_in s y ≡ Some q → (pos s y < q) × (q < length s)
 unfolding next_in pos
 next_later s [] q l e = never e
 next_later s (b ∷ x) q l e = go (eqb b 0x2C) refl
@@ -234,28 +236,39 @@ element_parts {s} {p} d i vs o =
     let z : a.2 ≡ vs = cc in
     (a.1, a.3 ∙ ap (λ (v : LItem). got v a.1) x, a.4 ∙ ap (λ (v : LItems). got v o.left) z)
 
-pub item_at_lem : (s : List ℕ) (p d : ℕ) {r : Item} → r ≡ item_at s p d → ItemAt s p d r
+-- what is read where elements stand
+item_reads : {s : List ℕ} {p : ℕ} (d : ℕ) (a b : List ℕ) (v : LValue) (vs : LItems) (o : ElementsAt s p d (icons (item a b v) vs))
+    → item_at s p d ≡ Some (item_by s (kind_of (plain v)) (pos s a) (pos s b) (element_parts d (item a b v) vs o).0)
+unfolding item_at item_in
+item_reads {s} {p} d a b v vs o =
+    ap (item_in s) (value_fuel (length s) o.fuel d (drop p s) (shorter_ending (ending_drop s p)) o.enough ∙ (element_parts d (item a b v) vs o).1)
+
+pub item_at_lem : (s : List ℕ) (p d : ℕ) {r : Item} → Some r ≡ item_at s p d → ItemAt s p d r
 unfolding item_at item_in item_by pos
-item_at_lem s p d e = subst (λ (z : Item). ItemAt s p d z) (sym e) (record { later = later (read_value (length s) d (drop p s)) refl; is = is })
+item_at_lem s p d {r} e = record { later = later (read_value (length s) d (drop p s)) refl e; is = is }
   where
-    later : (g : Got LItem) → read_value (length s) d (drop p s) ≡ g → (q : ℕ) → (item_in s g).next ≡ At q → (p < q) × (q < length s)
-    later bad c q f = never f
-    later (got (item a b v) y) c q f =
+    later : (g : Got LItem) → read_value (length s) d (drop p s) ≡ g → Some r ≡ item_in s g → (q : ℕ) → r.next ≡ Some q → (p < q) × (q < length s)
+    later bad c f q n = never (sym f)
+    later (got (item a b v) y) c f q n =
         let r = value_read (length s) d (drop p s) a b v y c in
-        let z = next_later s y q (shorter_ending (ending_of (ending_drop s p) r.leaves)) f in
+        let z = next_later s y q (shorter_ending (ending_of (ending_drop s p) r.leaves)) (sym (ap (λ (i : Item). i.next) (some_is f)) ∙ n) in
         (omega (arith, z.0, r.some, shorter_ending r.begins, ap length r.past, shorter_ending (ending_ws b), length-drop p s), z.1)
 
     is : (a b : List ℕ) (v : LValue) (vs : LItems) → ElementsAt s p d (icons (item a b v) vs)
-        → ValueIs s d (item_at s p d).kind (item_at s p d).value a b v × ElementsFrom s d (item_at s p d).next vs
+        → ValueIs s d r.value.kind r.value.place a b v × ElementsFrom s d r.next vs
     is a b v vs o =
         let u = element_parts d (item a b v) vs o in
         let whole = ending_drop s p in
-        let r = value_read o.fuel d (drop p s) a b v u.0 u.1 in
-        let c = value_fuel (length s) o.fuel d (drop p s) (shorter_ending whole) o.enough ∙ u.1 in
-        subst (λ (g : Got LItem). ValueIs s d (item_in s g).kind (item_in s g).value a b v × ElementsFrom s d (item_in s g).next vs) (sym c) (
+        let w = value_read o.fuel d (drop p s) a b v u.0 u.1 in
+        subst (λ (i : Item). ValueIs s d i.value.kind i.value.place a b v × ElementsFrom s d i.next vs) (sym (some_is (e ∙ item_reads d a b v vs o))) (
           value_is whole o.fuel d a b v u.0 o.enough u.1,
-          next_is elements u.0 (ending_of whole r.leaves) o.fuel d vs o.left (omega (arith, o.enough, shorter_ending r.leaves)) u.2,
+          next_is elements u.0 (ending_of whole w.leaves) o.fuel d vs o.left (omega (arith, o.enough, shorter_ending w.leaves)) u.2,
         )
+
+-- where nothing is read, no elements stand
+pub no_item : {B : Type 0} (s : List ℕ) (p d : ℕ) → None ≡ item_at s p d → (vs : LItems) → ElementsAt s p d vs → B
+no_item s p d e inil o = no_elements d o
+no_item s p d e (icons (item a b v) vs) o = never (e ∙ item_reads d a b v vs o)
 
 -- MEMBERS
 
@@ -295,33 +308,43 @@ module _ {s : List ℕ} {p : ℕ} (d : ℕ) (f t cs : List ℕ) (i : LItem) (ms 
       let l : p + 1 ≡ pos s f = omega (arith, length-drop p s, ap length m.opens, ap length (member_named m).0) in
       subst (λ (x : ℕ). NameAt s x cs) (sym l) name_is.holds
 
-pub entry_at_lem : (s : List ℕ) (p d : ℕ) {r : Entry} → r ≡ entry_at s p d → EntryAt s p d r
-unfolding entry_at entry_in entry_by item_in item_by pos
-entry_at_lem s p d e = subst (λ (z : Entry). EntryAt s p d z) (sym e) (record { later = later (read_member (length s) d (drop p s)) refl; is = is })
+-- what is read where members stand
+entry_reads : {s : List ℕ} {p : ℕ} (d : ℕ) (n t cs a b : List ℕ) (v : LValue) (ms : LMembers) (o : MembersAt s p d (lcons (named n t cs (item a b v)) ms))
+    → entry_at s p d ≡ Some (entry_by (place (pos s n) (pos s t)) (item_by s (kind_of (plain v)) (pos s a) (pos s b) (member_parts d (named n t cs (item a b v)) ms o).0))
+unfolding entry_at entry_in
+entry_reads {s} {p} d n t cs a b v ms o =
+    ap (entry_in s) (member_fuel (length s) o.fuel d (drop p s) (shorter_ending (ending_drop s p)) o.enough ∙ (member_parts d (named n t cs (item a b v)) ms o).2)
+
+pub entry_at_lem : (s : List ℕ) (p d : ℕ) {r : Entry} → Some r ≡ entry_at s p d → EntryAt s p d r
+unfolding entry_at entry_in entry_by item_by pos
+entry_at_lem s p d {r} e = record { later = later (read_member (length s) d (drop p s)) refl e; is = is }
   where
-    later : (g : Got LMember) → read_member (length s) d (drop p s) ≡ g → (q : ℕ) → (entry_in s g).next ≡ At q → (p < q) × (q < length s)
-    later bad c q f = never f
-    later (got (named n t cs (item a b v)) y) c q f =
+    later : (g : Got LMember) → read_member (length s) d (drop p s) ≡ g → Some r ≡ entry_in s g → (q : ℕ) → r.next ≡ Some q → (p < q) × (q < length s)
+    later bad c f q j = never (sym f)
+    later (got (named n t cs (item a b v)) y) c f q j =
         let m = member_inv (length s) d (drop p s) (named n t cs (item a b v)) y c in
         let r = value_read (length s) d m.colon a b v y (member_named m).2 in
-        let z = next_later s y q (shorter_ending (ending_of (ending_drop s p) (ending_of (colon_ends m) r.leaves))) f in
+        let z = next_later s y q (shorter_ending (ending_of (ending_drop s p) (ending_of (colon_ends m) r.leaves))) (sym (ap (λ (i : Entry). i.next) (some_is f)) ∙ j) in
         (omega (arith, z.0, r.some, shorter_ending r.begins, ap length r.past, shorter_ending (ending_ws b), shorter_ending (colon_ends m), length-drop p s), z.1)
 
     is : (n t cs a b : List ℕ) (v : LValue) (ms : LMembers) → MembersAt s p d (lcons (named n t cs (item a b v)) ms)
-        → NameIs s (entry_at s p d).name n t cs × ValueIs s d (entry_at s p d).kind (entry_at s p d).value a b v × MembersFrom s d (entry_at s p d).next ms
+        → NameIs s r.name n t cs × ValueIs s d r.value.kind r.value.place a b v × MembersFrom s d r.next ms
     is n t cs a b v ms o =
         let u = member_parts d (named n t cs (item a b v)) ms o in
         let m = u.1 in
         let reads = (member_named m).2 in
-        let r = value_read o.fuel d m.colon a b v u.0 reads in
-        let whole = ending_drop s p in
-        let colon = ending_of whole (colon_ends m) in
+        let w = value_read o.fuel d m.colon a b v u.0 reads in
+        let colon = ending_of (ending_drop s p) (colon_ends m) in
         let few : length m.colon ≤ o.fuel = omega (arith, o.enough, shorter_ending (colon_ends m)) in
-        let c = member_fuel (length s) o.fuel d (drop p s) (shorter_ending whole) o.enough ∙ u.2 in
         subst
-        (λ (g : Got LMember). NameIs s (entry_in s g).name n t cs × ValueIs s d (entry_in s g).kind (entry_in s g).value a b v × MembersFrom s d (entry_in s g).next ms)
-        (sym c) (
+        (λ (i : Entry). NameIs s i.name n t cs × ValueIs s d i.value.kind i.value.place a b v × MembersFrom s d i.next ms)
+        (sym (some_is (e ∙ entry_reads d n t cs a b v ms o))) (
           name_is d n t cs (item a b v) ms o,
           value_is colon o.fuel d a b v u.0 few reads,
-          next_is members u.0 (ending_of colon r.leaves) o.fuel d ms o.left (omega (arith, shorter_ending r.leaves)) u.3,
+          next_is members u.0 (ending_of colon w.leaves) o.fuel d ms o.left (omega (arith, shorter_ending w.leaves)) u.3,
         )
+
+-- where nothing is read, no members stand
+pub no_entry : {B : Type 0} (s : List ℕ) (p d : ℕ) → None ≡ entry_at s p d → (ms : LMembers) → MembersAt s p d ms → B
+no_entry s p d e lnil o = no_members d o
+no_entry s p d e (lcons (named n t cs (item a b v)) ms) o = never (e ∙ entry_reads d n t cs a b v ms o)

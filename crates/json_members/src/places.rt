@@ -8,6 +8,13 @@ ghost use Rattle.json_rules.specs.Answers.{place};
 use json_grammar_rules::Kind;
 use json_rules::Place;
 
+// A value: its kind, and its place, of a string between its quotation marks.
+#[derive(Clone, Copy, Debug, PartialEq, Eq)]
+pub struct Value {
+    pub kind: Kind,
+    pub place: Place,
+}
+
 // The kind of a value that begins with the byte b.
 pub(crate) fn kind_by(b: u8) -> Kind
     ensures { result ≡ kind_by (value_lead b) }

@@ -1,4 +1,5 @@
 -- The readers that call one another: a law for each way through each function.
+use Rattle.std.specs.Prelude.{Some, None}
 use mathlib.Core.Path.{◌≡◌, refl, ◌∙◌}
 use mathlib.Core.List.{List, [], ◌∷◌}
 use Prim.Native.Nat.{ℕ, suc, ◌≤◌, ◌<◌, ◌+◌, ◌-◌}
@@ -10,9 +11,7 @@ use Rattle.json_grammar_rules.specs.Reader.{Got, bad, got, over, expect, ws, dee
 use Rattle.json_grammar_rules.proofs.ReaderLaws.{expect_over}
 use Rattle.json_grammar_rules.proofs.Sequences.{Sequence, sequence, members, elements}
 use Rattle.json_grammar_rules.specs.Levels.{read_members}
-use Rattle.json_string.specs.declared.End.{End}
-use Rattle.json_string.specs.declared.End.TheVariants.{At, Bad}
-use Rattle.json_string.specs.Ends.{by, shorter}
+use Rattle.json_string.specs.Ends.{End, by, shorter}
 use Rattle.json_string.specs.Strings.{string_end, StringEnds}
 use Rattle.json_string.specs.StringLaws as string
 use Rattle.json_tokens.specs.Tokens.{EndsBy, SkipsTo, word_end, number_end}
@@ -27,32 +26,32 @@ use Rattle.json_tokens.specs.EndsLaws.{given, none, bounds, earlier, same, wrong
 
 module _ {A B : Type 0} {nothing : A} {cons : B → A → A} {one : ℕ → ℕ → List ℕ → Got B} {inside more : ℕ → ℕ → List ℕ → Got A} {close : ℕ}
     (q : Sequence nothing cons one inside more close) {s : List ℕ} where
-  module _ {at e : ℕ} (d : ℕ) (h : EndsBy (λ n x. one n d x) s at at (At e)) where
+  module _ {at e : ℕ} (d : ℕ) (h : EndsBy (λ n x. one n d x) s at at (Some e)) where
     one_read : {r : End} → EndsBy (λ n x. more n d x) s e e r → EndsBy (λ n x. sequence cons one more n d x) s at at r
     one_read k = bind (omega arith) (λ x b n y. over (cons b) (more n d y)) h (λ b. map (λ n x. cons b) k)
 
-    pub list_close : e < length s → get_or s e 0 ≡ close → EndsBy (λ n x. sequence cons one more n d x) s at at (At (e + 1))
+    pub list_close : e < length s → get_or s e 0 ≡ close → EndsBy (λ n x. sequence cons one more n d x) s at at (Some (e + 1))
     list_close k b = one_read (first_only k (omega arith) nothing (λ n. q.more_none n d (get_or s e 0) (drop (e + 1) s) (eq-eqb (get_or s e 0) close b)))
 
-    pub list_other : e < length s → (get_or s e 0 ≡ close → ⊥) → (get_or s e 0 ≡ 0x2C → ⊥) → EndsBy (λ n x. sequence cons one more n d x) s at at Bad
+    pub list_other : e < length s → (get_or s e 0 ≡ close → ⊥) → (get_or s e 0 ≡ 0x2C → ⊥) → EndsBy (λ n x. sequence cons one more n d x) s at at None
     list_other k b c =
         one_read (first_bad k (omega arith) (λ n. q.more_other n d (get_or s e 0) (drop (e + 1) s) (ne_eqb (get_or s e 0) close b) (ne_eqb (get_or s e 0) 0x2C c)))
 
-    pub list_out : length s ≤ e → EndsBy (λ n x. sequence cons one more n d x) s at at Bad
+    pub list_out : length s ≤ e → EndsBy (λ n x. sequence cons one more n d x) s at at None
     list_out k = one_read (out k (λ n. q.more_out n d))
 
-  pub list_bad : {at : ℕ} (d : ℕ) → EndsBy (λ n x. one n d x) s at at Bad → EndsBy (λ n x. sequence cons one more n d x) s at at Bad
+  pub list_bad : {at : ℕ} (d : ℕ) → EndsBy (λ n x. one n d x) s at at None → EndsBy (λ n x. sequence cons one more n d x) s at at None
   list_bad d h = bind_bad (omega arith) (λ x b n y. over (cons b) (more n d y)) h
 
   -- past the opening byte
-  pub opened_deep : {from : ℕ} (d : ℕ) → d ≡ 0 → EndsBy (λ n x. deeper d (λ e. inside n e (ws x))) s from from Bad
+  pub opened_deep : {from : ℕ} (d : ℕ) → d ≡ 0 → EndsBy (λ n x. deeper d (λ e. inside n e (ws x))) s from from None
   opened_deep d e = wrong (λ n. rw e)
 
   module _ {from at : ℕ} (d : ℕ) (z : d ≡ 0 → ⊥) (k : SkipsTo s from at) where
     opened : {r : End} → EndsBy (λ n x. inside n (d - 1) x) s at from r → EndsBy (λ n x. deeper d (λ e. inside n e (ws x))) s from from r
     opened h = deepened (λ e n x. inside n e (ws x)) d z (moved (λ n x. inside n (d - 1) x) k h)
 
-    pub opened_empty : at < length s → get_or s at 0 ≡ close → EndsBy (λ n x. deeper d (λ e. inside n e (ws x))) s from from (At (at + 1))
+    pub opened_empty : at < length s → get_or s at 0 ≡ close → EndsBy (λ n x. deeper d (λ e. inside n e (ws x))) s from from (Some (at + 1))
     opened_empty h b =
         opened (first_only h (omega (arith, k.low)) nothing (λ n. q.inside_none (suc n) (d - 1) (get_or s at 0) (drop (at + 1) s) (eq-eqb (get_or s at 0) close b)))
 
@@ -61,15 +60,15 @@ module _ {A B : Type 0} {nothing : A} {cons : B → A → A} {one : ℕ → ℕ 
     opened_some h b rest =
         opened (first_same h (omega (arith, k.low)) (λ n. q.inside_some (suc n) (d - 1) (get_or s at 0) (drop (at + 1) s) (ne_eqb (get_or s at 0) close b)) (earlier k.low rest))
 
-    pub opened_out : length s ≤ at → EndsBy (λ n x. deeper d (λ e. inside n e (ws x))) s from from Bad
+    pub opened_out : length s ≤ at → EndsBy (λ n x. deeper d (λ e. inside n e (ws x))) s from from None
     opened_out h = opened (out h (λ n. q.inside_out n (d - 1)))
 
 -- a comma: a value passes over the white space before it, a member doesn't
-pub elements_comma : {s : List ℕ} {at e : ℕ} {r : End} (d : ℕ) → ValueEnds s at d (At e) → e < length s → get_or s e 0 ≡ 0x2C → ElementsEnd s (e + 1) d r → ElementsEnd s at d r
+pub elements_comma : {s : List ℕ} {at e : ℕ} {r : End} (d : ℕ) → ValueEnds s at d (Some e) → e < length s → get_or s e 0 ≡ 0x2C → ElementsEnd s (e + 1) d r → ElementsEnd s at d r
 unfolding read_more_elements
 elements_comma d h k b rest = one_read elements d h (first_below k (omega arith) (λ n. rw b) rest)
 
-pub members_comma : {s : List ℕ} {at e j : ℕ} {r : End} (d : ℕ) → MemberEnds s at d (At e) → e < length s → get_or s e 0 ≡ 0x2C → SkipsTo s (e + 1) j → MembersEnd s j d r
+pub members_comma : {s : List ℕ} {at e j : ℕ} {r : End} (d : ℕ) → MemberEnds s at d (Some e) → e < length s → get_or s e 0 ≡ 0x2C → SkipsTo s (e + 1) j → MembersEnd s j d r
     → MembersEnd s at d r
 unfolding read_more_members
 members_comma d h k b w rest = one_read members d h (first_below k (omega arith) (λ n. rw b) (moved (λ n x. read_members n d x) w (earlier w.low rest)))
@@ -83,17 +82,17 @@ module _ {s : List ℕ} {from at : ℕ} (d : ℕ) (k : SkipsTo s from at) where
   pub colon_is : {r : End} → at < length s → get_or s at 0 ≡ 0x3A → ValueEnds s (at + 1) d r → AfterName s from d r
   colon_is h b rest = colon_value (first h (omega (arith, k.low)) (λ n. rw b) rest)
 
-  pub colon_other : at < length s → (get_or s at 0 ≡ 0x3A → ⊥) → AfterName s from d Bad
+  pub colon_other : at < length s → (get_or s at 0 ≡ 0x3A → ⊥) → AfterName s from d None
   colon_other h b = colon_value (first_bad h (omega (arith, k.low)) (λ n. rw (ne_eqb (get_or s at 0) 0x3A b)))
 
-  pub colon_out : length s ≤ at → AfterName s from d Bad
+  pub colon_out : length s ≤ at → AfterName s from d None
   colon_out h = colon_value (out h (λ n. refl))
 
 string_ends : {s : List ℕ} {at : ℕ} {r : End} → r ≡ string_end s at → EndsBy read_chars s at at r
 unfolding StringEnds
 string_ends {s} {at} h = record { ends = string.string_ends s at h }
 
-pub string_bounds : (s : List ℕ) (at e : ℕ) → At e ≡ string_end s at → (at ≤ e) × (e ≤ length s)
+pub string_bounds : (s : List ℕ) (at e : ℕ) → Some e ≡ string_end s at → (at ≤ e) × (e ≤ length s)
 string_bounds s at e h = bounds (string_ends h)
 
 -- what follows the quotation mark of a name, the bytes x, after the characters cs
@@ -101,23 +100,23 @@ abbrev past_name : ℕ → List ℕ → List ℕ → ℕ → List ℕ → Got LM
 past_name d x cs n y = expect 0x3A (ws y) (λ z. over (named x (0x22 ∷ y) cs) (read_value n d z))
 
 module _ {s : List ℕ} {from : ℕ} (d : ℕ) where
-  pub member_is : {q : ℕ} {r : End} → from < length s → get_or s from 0 ≡ 0x22 → At q ≡ string_end s (from + 1) → AfterName s q d r → MemberEnds s from d r
+  pub member_is : {q : ℕ} {r : End} → from < length s → get_or s from 0 ≡ 0x22 → Some q ≡ string_end s (from + 1) → AfterName s q d r → MemberEnds s from d r
   member_is {q} h b k rest =
       first h (omega arith) (λ n. rw b)
       (bind (omega arith) (past_name d) (string_ends k) (λ cs. same (λ n. expect_over 0x3A (ws (drop q s)) (named (drop (from + 1) s) (0x22 ∷ drop q s) cs) (λ z. read_value n d z)) (map (λ n y. named (drop (from + 1) s) (0x22 ∷ y) cs) rest)))
 
-  pub member_name_bad : from < length s → get_or s from 0 ≡ 0x22 → Bad ≡ string_end s (from + 1) → MemberEnds s from d Bad
+  pub member_name_bad : from < length s → get_or s from 0 ≡ 0x22 → None ≡ string_end s (from + 1) → MemberEnds s from d None
   member_name_bad h b k = first h (omega arith) (λ n. rw b) (bind_bad (omega arith) (past_name d) (string_ends k))
 
-  pub member_no_quote : from < length s → (get_or s from 0 ≡ 0x22 → ⊥) → MemberEnds s from d Bad
+  pub member_no_quote : from < length s → (get_or s from 0 ≡ 0x22 → ⊥) → MemberEnds s from d None
   member_no_quote h b = first_bad h (omega arith) (λ n. rw (ne_eqb (get_or s from 0) 0x22 b))
 
-  pub member_out : length s ≤ from → MemberEnds s from d Bad
+  pub member_out : length s ≤ from → MemberEnds s from d None
   member_out h = out h (λ n. refl)
 
 -- A VALUE FROM ITS FIRST BYTE ON
 
-pub bare_out : {s : List ℕ} {at : ℕ} (d : ℕ) → length s ≤ at → BareEnds s at d Bad
+pub bare_out : {s : List ℕ} {at : ℕ} (d : ℕ) → length s ≤ at → BareEnds s at d None
 bare_out d h = out h (no_trimmed d)
 
 module _ {s : List ℕ} {at : ℕ} {r : End} (d : ℕ) (h : at < length s) where
@@ -153,14 +152,14 @@ module _ {s : List ℕ} {at : ℕ} {r : End} (d : ℕ) (h : at < length s) where
 -- A VALUE BETWEEN WHITE SPACE
 
 module _ {s : List ℕ} {from at : ℕ} (d : ℕ) (k : SkipsTo s from at) where
-  pub value_is : {e j : ℕ} → At e ≡ bare_end s at d → SkipsTo s e j → ValueEnds s from d (At j)
+  pub value_is : {e j : ℕ} → Some e ≡ bare_end s at d → SkipsTo s e j → ValueEnds s from d (Some j)
   value_is {e} {j} r w =
       let b = bare_ends d r in
       record {
         ends = λ n i.
             let g = given b n (shorter s from at n k.low i) in
-            by s from (At j) _ (got (item (drop at s) (drop e s) g.0) (drop j s)) (placed_at d k n ∙ rw (g.1, w.is)) (omega (arith, k.low, (bounds b).0, w.low), w.high (bounds b).1, refl);
+            by s from (Some j) _ (got (item (drop at s) (drop e s) g.0) (drop j s)) (placed_at d k n ∙ rw (g.1, w.is)) (omega (arith, k.low, (bounds b).0, w.low), w.high (bounds b).1, refl);
       }
 
-  pub value_bad : Bad ≡ bare_end s at d → ValueEnds s from d Bad
-  value_bad r = record { ends = λ n i. by s from Bad _ bad (placed_at d k n ∙ rw (none (bare_ends d r) n (shorter s from at n k.low i))) tt }
+  pub value_bad : None ≡ bare_end s at d → ValueEnds s from d None
+  value_bad r = record { ends = λ n i. by s from None _ bad (placed_at d k n ∙ rw (none (bare_ends d r) n (shorter s from at n k.low i))) tt }

@@ -2,7 +2,7 @@
 use Rattle.std.proofs.Math.Path.{◌≡◌, refl, ap, ap₂, subst}
 use Rattle.std.proofs.Common.{sym, ◌∙◌, arith}
 use mathlib.Core.List.{List, [], ◌∷◌}
-use Rattle.std.specs.Prelude.{ℕ, zero, suc, ◌≤◌, ◌<◌, ◌+◌, drop, get_or}
+use Rattle.std.specs.Prelude.{ℕ, zero, suc, ◌≤◌, ◌<◌, ◌+◌, drop, get_or, Some, None}
 use Rattle.std.proofs.Math.ListN.{length}
 use Rattle.json_grammar_rules.specs.Value.{LValue, LItem, item}
 use Rattle.json_grammar_rules.specs.Places.{pos}
@@ -12,10 +12,8 @@ use Rattle.json_grammar_rules.proofs.Written.{value}
 use Rattle.json_grammar_rules.proofs.Sound.{bare_found}
 use Rattle.json_grammar_rules.proofs.Endings.{Ending, shorter_ending, at_ending, ending_of, ending_drop, ending_byte, ending_ws, yield_leaves, value_read}
 use Rattle.json_grammar_rules.proofs.Fuel.{Steady, one_same, value_fuel, bare_fuel}
-use Rattle.json_string.specs.declared.End.{End}
-use Rattle.json_string.specs.Ends.{at_byte}
+use Rattle.json_string.specs.Ends.{End, at_byte}
 use Rattle.json_tokens.specs.EndsLaws.{ends_of, is_end}
-use Rattle.json_reader.specs.declared.values.Span.TheVariants.{Between, Nowhere}
 use Rattle.json_reader.specs.Reads.{read_trimmed, read_after_name, BareEnds, bare_end, span_of, value_span, Spanned}
 use Rattle.json_reader.specs.ValueLaws.{trimmed_kind, no_trimmed}
 
@@ -69,21 +67,22 @@ module _ (s : List ℕ) (q d n : ℕ) (l : length (drop q s) ≤ n) where
         kind = trimmed_kind (suc r.below) d (get_or s (pos s a) 0) (drop (pos s a + 1) s) (ap (read_trimmed (suc r.below) d) (sym (at_byte s (pos s a) h) ∙ f) ∙ r.reads);
       }
 
-  pub span_between : {f e : ℕ} → Between f e ≡ value_span s q d → Spanned s q f e d n
+  pub span_between : {f e : ℕ} → Some (f, e) ≡ value_span s q d → Spanned s q f e d n
   unfolding value_span
   span_between {f} {e} c = go (read_after_name n d (drop q s)) refl (c ∙ ap (span_of s) (sym after_fuel))
     where
-      go : (g : Got LItem) → read_after_name n d (drop q s) ≡ g → Between f e ≡ span_of s g → Spanned s q f e d n
+      go : (g : Got LItem) → read_after_name n d (drop q s) ≡ g → Some (f, e) ≡ span_of s g → Spanned s q f e d n
       go bad k z = let w : ◌≡◌ {A = ℕ} 0 1 = cc in absurd (omega arith)
       go (got (item a b v) y) k z =
-          let p : pos s a ≡ f = cc in
-          let o : pos s b ≡ e = cc in
+          let t : ◌≡◌ {A = ℕ × ℕ} (pos s a, pos s b) (f, e) = cc in
+          let p : pos s a ≡ f = ap (λ (x : ℕ × ℕ). x.0) t in
+          let o : pos s b ≡ e = ap (λ (x : ℕ × ℕ). x.1) t in
           rw (p, o) at (placed a b v y k)
 
-  pub span_none : Nowhere ≡ value_span s q d → read_after_name n d (drop q s) ≡ bad
+  pub span_none : None ≡ value_span s q d → read_after_name n d (drop q s) ≡ bad
   unfolding value_span
   span_none c = go (read_after_name n d (drop q s)) (c ∙ ap (span_of s) (sym after_fuel))
     where
-      go : (g : Got LItem) → Nowhere ≡ span_of s g → g ≡ bad
+      go : (g : Got LItem) → None ≡ span_of s g → g ≡ bad
       go bad z = refl
       go (got (item a b v) y) z = let w : ◌≡◌ {A = ℕ} 0 1 = cc in absurd (omega arith)

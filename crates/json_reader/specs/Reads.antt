@@ -1,5 +1,5 @@
 -- What the contracts say: where the readers of `json_grammar_rules`'s Reader, started at a place of a slice, end.
-use Rattle.std.specs.Prelude.{◌≡◌, Bool, List, ℕ, zero, suc, ◌≤◌, ◌<◌, ◌+◌, length, drop, get_or}
+use Rattle.std.specs.Prelude.{◌≡◌, Bool, List, ℕ, zero, suc, ◌≤◌, ◌<◌, ◌+◌, length, drop, get_or, Option, Some, None}
 use Rattle.json_grammar_rules.specs.Value.{LValue, LItem, LItems, item, plain}
 use Rattle.json_grammar_rules.specs.declared.Kind.{Kind}
 use Rattle.json_grammar_rules.specs.Places.{kind_of, pos}
@@ -9,10 +9,7 @@ use Rattle.json_grammar_rules.specs.Reader.{deeper, read_value, read_object, rea
 use Rattle.json_grammar_rules.specs.Levels.{read_bare, read_in_array}
 pub use Rattle.json_grammar_rules.specs.Levels.{read_elements, read_member, read_members}
 use Rattle.json_grammar_rules.proofs.Unique.{is_got}
-use Rattle.json_string.specs.declared.End.{End}
-use Rattle.json_reader.specs.declared.values.Span.{Span}
-use Rattle.json_reader.specs.declared.values.Span.TheVariants.{Between, Nowhere}
-use Rattle.json_string.specs.Ends.{end_of}
+use Rattle.json_string.specs.Ends.{End, end_of}
 use Rattle.json_tokens.specs.Tokens.{EndsBy}
 
 -- VALUES, with the depth left d
@@ -71,12 +68,12 @@ kind_by null_lead = Kind.Null
 kind_by number_lead = Kind.Number
 
 -- the place of the value that a reader gives, from its first byte to the place after its last
-abbrev pub span_of : List ℕ → Got LItem → Span
-span_of s (got (item a b v) y) = Between (pos s a) (pos s b)
-span_of s bad = Nowhere
+abbrev pub span_of : List ℕ → Got LItem → Option (ℕ × ℕ)
+span_of s (got (item a b v) y) = Some (pos s a, pos s b)
+span_of s bad = None
 
 -- of the value after a name whose closing quotation mark is before q
-unfoldable pub value_span : List ℕ → ℕ → ℕ → Span
+unfoldable pub value_span : List ℕ → ℕ → ℕ → Option (ℕ × ℕ)
 value_span s q d = span_of s (read_after_name (length (drop q s)) d (drop q s))
 
 -- what is read there, with fuel n, of a value that stands from f to e: its first byte tells its kind

@@ -2,24 +2,23 @@
 ghost use Rattle.json_reader.specs.Reads.{ArrayEnds, ElementsEnd};
 
 use crate::values::value;
-use json_string::End;
 use json_tokens::skip_ws;
 
 // What follows an opening bracket, up to the closing one.
 // Rules out a bracket that counts for no level, and an array that a brace closes.
 #[cycle(reading)]
-pub(crate) fn array(s: &[u8], from: usize, depth: usize) -> End
+pub(crate) fn array(s: &[u8], from: usize, depth: usize) -> Option<usize>
     ensures { ArrayEnds s.now from depth result }
 {
     if depth == 0 {
-        return End::Bad;
+        return None;
     }
     let at = skip_ws(s, from);
     if at >= s.len() {
-        return End::Bad;
+        return None;
     }
     if s[at] == 0x5D {
-        return End::At(at + 1);
+        return Some(at + 1);
     }
     elements(s, at, depth - 1)
 }
@@ -27,23 +26,21 @@ pub(crate) fn array(s: &[u8], from: usize, depth: usize) -> End
 // One element or more, and the closing bracket.
 // Rules out a comma before the closing bracket, and elements with no comma between them.
 #[cycle(reading)]
-pub(crate) fn elements(s: &[u8], from: usize, depth: usize) -> End
+pub(crate) fn elements(s: &[u8], from: usize, depth: usize) -> Option<usize>
     ensures { ElementsEnd s.now from depth result }
 {
     let mut at = from;
     loop {
-        let End::At(e) = value(s, at, depth) else {
-            return End::Bad; // no value
-        };
+        let e = value(s, at, depth)?; // no value
         if e >= s.len() {
-            return End::Bad;
+            return None;
         }
         let b = s[e];
         if b == 0x5D {
-            return End::At(e + 1);
+            return Some(e + 1);
         }
         if b != 0x2C {
-            return End::Bad;
+            return None;
         }
         at = e + 1;
     }

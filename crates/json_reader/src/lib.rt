@@ -8,4 +8,4 @@ mod values; // values.rt: values, and the place of a member's value
 mod texts; // texts.rt: the whole text
 
 pub use texts::text;
-pub use values::{Span, bare, value_span};
+pub use values::{bare, value_span};

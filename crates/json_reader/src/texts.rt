@@ -3,7 +3,6 @@ ghost use Rattle.std.specs.Prelude.{◌≡◌};
 ghost use Rattle.json_reader.specs.Reads.{is_text};
 
 use crate::objects::object;
-use json_string::End;
 use json_tokens::skip_ws;
 
 // Whether s is a text of depth `depth` at most.
@@ -18,8 +17,8 @@ pub fn text(s: &[u8], depth: usize) -> bool
     if s[at] != 0x7B {
         return false;
     }
-    match object(s, at + 1, depth) {
-        End::At(e) => skip_ws(s, e) == s.len(),
-        End::Bad => false,
-    }
+    let Some(e) = object(s, at + 1, depth) else {
+        return false;
+    };
+    skip_ws(s, e) == s.len()
 }

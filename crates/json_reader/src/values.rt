@@ -5,7 +5,7 @@ ghost use Rattle.json_reader.specs.Reads.{ValueEnds, bare_end, value_span};
 
 use crate::arrays::array;
 use crate::objects::object;
-use json_string::{End, string_end};
+use json_string::string_end;
 use json_tokens::{number_end, skip_ws, word_end};
 
 // What follows the first letters of the words. They are copied to be lent: a text that is lent itself would be data of the archive.
@@ -18,24 +18,22 @@ const ULL: [u8; 3] = *b"ull";
 // A value, with white space before and after it.
 // Rules out an answer before the white space after the value, and a value that is deeper than `depth`.
 #[cycle(reading)]
-pub(crate) fn value(s: &[u8], from: usize, depth: usize) -> End
+pub(crate) fn value(s: &[u8], from: usize, depth: usize) -> Option<usize>
     ensures { ValueEnds s.now from depth result }
 {
     let at = skip_ws(s, from);
-    match bare(s, at, depth) {
-        End::At(e) => End::At(skip_ws(s, e)),
-        End::Bad => End::Bad,
-    }
+    let e = bare(s, at, depth)?;
+    Some(skip_ws(s, e))
 }
 
 // A value from its first byte on, without the white space after it.
 // Rules out a word that is cut short, and an array that is deeper than `depth`.
 #[cycle(reading)]
-pub fn bare(s: &[u8], at: usize, depth: usize) -> End
+pub fn bare(s: &[u8], at: usize, depth: usize) -> Option<usize>
     ensures { result ≡ bare_end s.now at depth }
 {
     if at >= s.len() {
-        return End::Bad;
+        return None;
     }
     let b = s[at];
     if b == 0x22 {
@@ -62,28 +60,19 @@ pub fn bare(s: &[u8], at: usize, depth: usize) -> End
     number_end(s, at)
 }
 
-// A part of a text, from its first byte to the place after its last; or none.
-#[derive(Clone, Copy)]
-pub enum Span {
-    Between(usize, usize),
-    Nowhere,
-}
-
-// The place of the value after a name whose closing quotation mark is before q, without the white space around it.
+// The place of the value after a name whose closing quotation mark is before q, without the white space around it: its first byte's, and the place after its last.
 // Rules out a place that begins at the colon, and a comma in the place of the colon.
-pub fn value_span(s: &[u8], q: usize, depth: usize) -> Span
+pub fn value_span(s: &[u8], q: usize, depth: usize) -> Option<(usize, usize)>
     ensures { result ≡ value_span s.now q depth }
 {
     let colon = skip_ws(s, q);
     if colon >= s.len() {
-        return Span::Nowhere;
+        return None;
     }
     if s[colon] != 0x3A {
-        return Span::Nowhere;
+        return None;
     }
     let from = skip_ws(s, colon + 1);
-    match bare(s, from, depth) {
-        End::At(to) => Span::Between(from, to),
-        End::Bad => Span::Nowhere,
-    }
+    let to = bare(s, from, depth)?;
+    Some((from, to))
 }

@@ -21,9 +21,8 @@ use Rattle.json_grammar_rules.proofs.Unique.{one_reading, read_decides}
 use Rattle.json_grammar_rules.specs.Shown.{Shows}
 use Rattle.json_grammar_rules.proofs.ShownLaws.{shown}
 use Rattle.json_rules.specs.declared.Place.{Place}
-use Rattle.json_rules.specs.declared.Member.TheVariants.{Refused}
 use Rattle.json_rules.specs.Rules.{longest, deepest, NameTwice, DerivedOnce, count, NoMember, grammar_rules, header_rules, member_rules}
-use Rattle.json_rules.specs.Answers.{place, shown_by, answer_for, number_of, with_kind, values_of}
+use Rattle.json_rules.specs.Answers.{Refused, place, shown_by, answer_for, number_of, with_kind, values_of}
 use Rattle.json_rules.specs.Tests.{members_in, twice_in, grammar_tests, header_tests, checked, missing, member_tests, unless_refused, member_of, member_number, Read}
 
 -- THE TESTS decide them, each where no earlier one holds

@@ -10,11 +10,8 @@ use Rattle.json_grammar_rules.specs.Grammar.{Derivation, bytes, reading_of}
 use Rattle.json_grammar_rules.specs.Places.{kind_of, pos, margin, placed, member}
 use Rattle.json_grammar_rules.specs.Reader.{read, read_value, read_chars, read_char, char_lead, escape_lead_of, is_unescaped1, past_number, word, value_lead, skip}
 use Rattle.json_grammar_rules.proofs.Unique.{one_reading, reads_as}
-use Rattle.json_rules.specs.declared.Member.{Member}
-use Rattle.json_rules.specs.declared.Member.TheVariants.{Refused, Array}
-use Rattle.json_rules.specs.declared.Member.TheVariants.{String as Text}
 use Rattle.json_rules.specs.Rules.{longest, deepest}
-use Rattle.json_rules.specs.Answers.{place, answer_for}
+use Rattle.json_rules.specs.Answers.{Member, Refused, Array, String as Text, place, answer_for}
 use Rattle.json_rules.specs.Tests.{header_tests, checked, unless_refused, member_of}
 use Rattle.json_rules.proofs.Promises.{header_first}
 

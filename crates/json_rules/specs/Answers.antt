@@ -1,14 +1,21 @@
 -- What the member call's answer says: a case for each kind with its places, or a refusal; the specification's number and values for each case. No parser is mentioned.
 use Rattle.std.proofs.Math.Option.{Option, none, some}
-use Rattle.std.specs.Prelude.{ℕ}
+use Rattle.std.specs.Prelude.{ℕ, ◌-◌}
 use Rattle.json_grammar_rules.specs.declared.Kind.{Kind}
 use Rattle.json_grammar_rules.specs.Places.{MemberPlaces}
 use Rattle.json_rules.specs.declared.Place.{Place}
-use Rattle.json_rules.specs.declared.Member.{Member}
-use Rattle.json_rules.specs.declared.Member.TheVariants.{String, Number, True, False, Null, Array, Object, Refused}
+
+-- A MEMBER BY THE KIND OF ITS VALUE, as the place of its name and the place of its value; or the refusal's number
+pub data Member : Type 0 where
+  String Number True False Null Array Object : Place → Place → Member
+  Refused : ℕ → Member
 
 abbrev pub place : ℕ → ℕ → Place
 place s e = record { start = s; end = e }
+
+-- how many bytes it has: none where the end lies before the start
+abbrev pub size_of : Place → ℕ
+size_of x = x.end - x.start
 
 -- a case for each kind, with the places of the name and of the value
 abbrev pub shown_by : Kind → Place → Place → Member

@@ -6,10 +6,8 @@ use Rattle.json_grammar_rules.specs.Value.{object_v, twice, LMembers, lnil, plai
 use Rattle.json_grammar_rules.specs.Places.{MemberPlaces, member}
 use Rattle.json_grammar_rules.specs.Reader.{Got, bad, got, read}
 use Rattle.json_grammar_rules.proofs.Unique.{is_got}
-use Rattle.json_rules.specs.declared.Member.{Member}
-use Rattle.json_rules.specs.declared.Member.TheVariants.{Refused}
 use Rattle.json_rules.specs.Rules.{longest, deepest}
-use Rattle.json_rules.specs.Answers.{answer_for, number_of}
+use Rattle.json_rules.specs.Answers.{Member, Refused, answer_for, number_of}
 
 -- THE HEADER
 

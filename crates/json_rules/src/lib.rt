@@ -1,6 +1,9 @@
-// A JSON header's rules as definitions and theorems, in specs/ and proofs/, and the answers that they speak of (RFC 8259 and RFC 3629, with the house rules).
+// A JSON header's rules as definitions and theorems, in specs/ and proofs/, and the types of the code that computes them (RFC 8259 and RFC 3629, with the house rules).
 // The crates `json_check` and `json_header` compute them.
 #![tactic(auto)]
+
+ghost use Rattle.std.specs.Prelude.{◌≡◌};
+ghost use Rattle.json_rules.specs.Answers.{size_of};
 
 // The greatest length of a header, and the greatest depth, in which the top object is 1.
 pub const LONGEST: usize = 4096;
@@ -8,14 +11,24 @@ pub const LONGEST: usize = 4096;
 pub const DEEPEST: usize = 16;
 
 // A part of a text: start is the place of its first byte, end the place after its last.
-#[derive(Clone, Copy)]
+#[derive(Clone, Copy, Debug, PartialEq, Eq)]
 pub struct Place {
     pub start: usize,
     pub end: usize,
 }
 
-// The member reader's answer: a member of the top object, by the kind of its value, as the place of its name and the place of its value; or the refusal's number.
-#[derive(Clone, Copy)]
+impl Place {
+    // How many bytes a place has. Rules out one more for the byte past its end, and a difference that wraps where the end lies before the
+    // start.
+    pub fn size(self) -> usize
+        ensures { result ≡ size_of self }
+    {
+        self.end.saturating_sub(self.start)
+    }
+}
+
+// What the member reader shows: a member of the top object, by the kind of its value, as the place of its name and the place of its value.
+#[derive(Clone, Copy, Debug, PartialEq, Eq)]
 pub enum Member {
     String(Place, Place),
     Number(Place, Place),
@@ -24,5 +37,4 @@ pub enum Member {
     Null(Place, Place),
     Array(Place, Place),
     Object(Place, Place),
-    Refused(u8),
 }

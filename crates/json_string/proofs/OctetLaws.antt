@@ -1,4 +1,5 @@
 -- Laws of octets that stand in a word.
+use Rattle.std.specs.Prelude.{Some, None}
 use mathlib.Core.Path.{◌≡◌, sym, ap, ◌∙◌}
 use mathlib.Core.Bool.{◌&&◌}
 use mathlib.Core.List.{List, [], ◌∷◌, ◌++◌}
@@ -11,7 +12,6 @@ use lib.Seq.{get_or-take}
 use borrow.Author.Tests.{eq-eqb, ne_eqb}
 use Rattle.common.specs.Same.{same}
 use Rattle.common.proofs.SameLaws.{same_longer}
-use Rattle.json_string.specs.declared.End.TheVariants.{At, Bad}
 use Rattle.json_string.specs.Ends.{at_byte}
 use Rattle.json_characters.specs.Utf8.{octets}
 use Rattle.json_string.specs.Steps.{OctetsEnd}
@@ -42,12 +42,12 @@ pub prefix_fits : (n : ℕ) (bytes bs : List ℕ) → take n bytes ≡ bs → n 
 prefix_fits n bytes bs e l = let k : n ≡ min n (length bytes) = l ∙ sym (ap length e) ∙ length-take n bytes in omega (arith, min-le_right n (length bytes))
 
 module _ (w : List ℕ) (at c : ℕ) where
-  pub octets_short : length w - at < length (octets c) → OctetsEnd w at c Bad
+  pub octets_short : length w - at < length (octets c) → OctetsEnd w at c None
   unfolding OctetsEnd
   octets_short h xs = same_longer (octets c ++ xs) (drop at w) (omega (arith, length-append (octets c) xs, length-drop at w))
 
   module _ (i : ℕ) (p : Passed w at (octets c) i) where
-    pub octets_all : (n : ℕ) → i ≡ n → n ≡ length (octets c) → at + n ≤ length w → OctetsEnd w at c (At (at + n))
+    pub octets_all : (n : ℕ) → i ≡ n → n ≡ length (octets c) → at + n ≤ length w → OctetsEnd w at c (Some (at + n))
     unfolding OctetsEnd Passed
     octets_all n e l h = (omega arith, h, λ xs. p xs ∙ rw e (ap (λ (o : List ℕ). same (o ++ xs) (drop (at + n) w)) (drop_of_length-le (octets c) {i = n} (omega arith))))
 
@@ -56,13 +56,13 @@ module _ (w : List ℕ) (at c : ℕ) where
       unfolding Passed
       passed_next e xs = p xs ∙ next w at (octets c) i h k xs ∙ rw (eq-eqb (get_or (octets c) i 0) (get_or w (at + i) 0) (sym e))
 
-      pub octets_differ : (get_or w (at + i) 0 ≡ get_or (octets c) i 0 → ⊥) → OctetsEnd w at c Bad
+      pub octets_differ : (get_or w (at + i) 0 ≡ get_or (octets c) i 0 → ⊥) → OctetsEnd w at c None
       unfolding OctetsEnd Passed
       octets_differ n xs = p xs ∙ next w at (octets c) i h k xs ∙ rw (ne_eqb (get_or (octets c) i 0) (get_or w (at + i) 0) (λ e. n (sym e)))
 
 -- a code point that is its own octet
 module _ (w : List ℕ) (at c : ℕ) (o : octets c ≡ c ∷ []) where
-  pub octet_ended : length w ≤ at → OctetsEnd w at c Bad
+  pub octet_ended : length w ≤ at → OctetsEnd w at c None
   octet_ended h = octets_short w at c (omega (arith, ap length o))
 
   module _ (h : at < length w) where
@@ -70,10 +70,10 @@ module _ (w : List ℕ) (at c : ℕ) (o : octets c ≡ c ∷ []) where
     unfolding same
     octet xs = rw (o, at_byte w at h)
 
-    pub octet_here : get_or w at 0 ≡ c → OctetsEnd w at c (At (at + 1))
+    pub octet_here : get_or w at 0 ≡ c → OctetsEnd w at c (Some (at + 1))
     unfolding OctetsEnd
     octet_here e = (omega arith, omega arith, λ xs. octet xs ∙ rw (eq-eqb c (get_or w at 0) (sym e)))
 
-    pub octet_differs : (get_or w at 0 ≡ c → ⊥) → OctetsEnd w at c Bad
+    pub octet_differs : (get_or w at 0 ≡ c → ⊥) → OctetsEnd w at c None
     unfolding OctetsEnd
     octet_differs n xs = octet xs ∙ rw (ne_eqb c (get_or w at 0) (λ e. n (sym e)))

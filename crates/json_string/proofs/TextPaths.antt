@@ -1,4 +1,5 @@
 -- Strings read and compared: a law for each way through each function.
+use Rattle.std.specs.Prelude.{Some, None}
 use mathlib.Core.Path.{◌≡◌, refl, sym, ap, ap₂, ◌∙◌, subst}
 use mathlib.Core.Bool.{Bool, true, false}
 use mathlib.Core.List.{List, [], ◌∷◌}
@@ -11,11 +12,8 @@ use Rattle.common.proofs.Decided.{test_false}
 use Rattle.common.specs.Same.{same}
 use Rattle.common.proofs.SameLaws.{decides_same}
 use Rattle.json_grammar_rules.specs.Reader.{Got, bad, got, over}
-use Rattle.json_string.specs.declared.End.{End}
-use Rattle.json_string.specs.declared.End.TheVariants.{At, Bad}
-use Rattle.json_characters.specs.declared.Scan.TheVariants.{Code}
 use Rattle.json_characters.specs.Characters.{CharAt}
-use Rattle.json_string.specs.Ends.{end_of, at_byte, pos_drop}
+use Rattle.json_string.specs.Ends.{End, end_of, at_byte, pos_drop}
 use Rattle.json_string.specs.Strings.{text_at, string_end, given, same_of, same_text, mix, mix_all, unmixed, mixed_at, fingerprint_at, text_is}
 use Rattle.json_string.specs.TextLaws.{text_quote, text_step, text_some, given_over, given_same}
 use Rattle.json_characters.specs.Utf8.{utf8}
@@ -24,13 +22,13 @@ use Rattle.json_string.specs.Steps.{OctetsEnd}
 -- THE END OF A STRING
 
 module _ (s : List ℕ) (i : ℕ) where
-  pub end_none : text_at s i ≡ bad → Bad ≡ string_end s i
+  pub end_none : text_at s i ≡ bad → None ≡ string_end s i
   unfolding string_end
   end_none h = sym (ap (end_of s) h)
 
-  pub end_quote : i < length s → get_or s i 0 ≡ 0x22 → At (i + 1) ≡ string_end s i
+  pub end_quote : i < length s → get_or s i 0 ≡ 0x22 → Some (i + 1) ≡ string_end s i
   unfolding string_end
-  end_quote h b = sym (ap (end_of s) (text_quote s i h b) ∙ ap At (pos_drop s (i + 1) (omega arith)))
+  end_quote h b = sym (ap (end_of s) (text_quote s i h b) ∙ ap Some (pos_drop s (i + 1) (omega arith)))
 
   pub end_on : (c e : ℕ) → text_at s i ≡ over (λ cs. c ∷ cs) (text_at s e) → string_end s e ≡ string_end s i
   unfolding string_end
@@ -85,7 +83,7 @@ module _ (s : List ℕ) (i : ℕ) (t : List ℕ) (j : ℕ) where
           go (got cs r) = refl
           go bad = refl
 
-      module _ (b' : get_or t j 0 ≡ 0x22 → ⊥) (x i₂ y j₂ : ℕ) (w : CharAt s i (Code x i₂)) (w' : CharAt t j (Code y j₂)) where
+      module _ (b' : get_or t j 0 ≡ 0x22 → ⊥) (x i₂ y j₂ : ℕ) (w : CharAt s i (Some (x, i₂))) (w' : CharAt t j (Some (y, j₂))) where
         firsts : same_text s i t j ≡ same_of (over (λ cs. x ∷ cs) (text_at s i₂)) (over (λ cs. y ∷ cs) (text_at t j₂))
         unfolding same_text
         firsts = ap₂ same_of (text_step s i h b x i₂ w) (text_step t j h' b' y j₂ w')
@@ -128,7 +126,7 @@ fingerprints_differ s p t q x y = go (text_at s p) (text_at t q)
 pub word_ended : (w : List ℕ) (at c : ℕ) (q q' : End) → OctetsEnd w at c q → q ≡ q' → OctetsEnd w at c q'
 word_ended w at c q q' h e = subst (λ (x : End). OctetsEnd w at c x) e h
 
-pub word_after : (w : List ℕ) (at c e : ℕ) → OctetsEnd w at c (At e) → e ≤ length w
+pub word_after : (w : List ℕ) (at c e : ℕ) → OctetsEnd w at c (Some e) → e ≤ length w
 unfolding OctetsEnd
 word_after w at c e h = h.1
 
@@ -153,10 +151,10 @@ module _ (s : List ℕ) (i : ℕ) (w : List ℕ) (k : ℕ) where
         ap (given (λ cs. same (utf8 cs) (drop k w)) false) x
         ∙ given_over (λ cs. same (utf8 cs) (drop k w)) (λ cs. c ∷ cs) f false q (text_at s e)
 
-    pub is_step : (m : ℕ) → OctetsEnd w k c (At m) → text_is s e (drop m w) ≡ text_is s i (drop k w)
+    pub is_step : (m : ℕ) → OctetsEnd w k c (Some m) → text_is s e (drop m w) ≡ text_is s i (drop k w)
     unfolding text_is utf8 OctetsEnd
     is_step m o = sym (is_more (λ cs. same (utf8 cs) (drop m w)) (λ cs. o.2 (utf8 cs)))
 
-    pub is_differ : OctetsEnd w k c Bad → false ≡ text_is s i (drop k w)
+    pub is_differ : OctetsEnd w k c None → false ≡ text_is s i (drop k w)
     unfolding utf8 OctetsEnd
     is_differ o = sym (is_more (λ _. false) (λ cs. o (utf8 cs)) ∙ given_same false (text_at s e))

@@ -7,8 +7,7 @@ use Rattle.json_grammar_rules.specs.Reader.{Got, bad, got, read_chars}
 use Rattle.json_grammar_rules.proofs.CharLaws.{chars_sound, chars_read, chars_fuel}
 use Rattle.json_grammar_rules.proofs.Endings.{ending_of, ending_byte}
 use Rattle.json_grammar_rules.proofs.Written.{chars, longer}
-use Rattle.json_string.specs.declared.End.{End}
-use Rattle.json_string.specs.Ends.{Ends, end_of, pos_left, by}
+use Rattle.json_string.specs.Ends.{End, Ends, end_of, pos_left, by}
 use Rattle.json_string.specs.Strings.{string_end, StringEnds, NameAt, text_at, given, same_of, same_text, mix_all, unmixed, fingerprint_at, mixed_at, text_is, resolved, resolved_to, resolved_at, resolved_to_at}
 use Rattle.json_characters.specs.Utf8.{utf8, Scalar, Each}
 use Rattle.json_characters.specs.Utf8Laws.{scalar_codes}

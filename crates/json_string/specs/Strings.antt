@@ -1,14 +1,11 @@
 -- What the public functions' contracts cite: strings at places of a slice.
-use Rattle.std.specs.Prelude.{◌≡◌, Bool, false, cond, List, [], ◌∷◌, ℕ, ◌*◌, ◌/◌, ◌%◌, ◌^◌, ◌≤◌, leb, length, drop}
+use Rattle.std.specs.Prelude.{◌≡◌, Bool, false, cond, List, [], ◌∷◌, ℕ, ◌*◌, ◌/◌, ◌%◌, ◌^◌, ◌≤◌, leb, length, drop, Option, Some, None}
 use Rattle.std.specs.Int.Bits.{bit_or, bit_xor}
 use Rattle.common.specs.Buffer.{laid, cleared}
 use Rattle.common.specs.Same.{same}
 use Rattle.json_grammar_rules.specs.Reader.{Got, bad, got, read_chars}
-use Rattle.json_string.specs.Ends.{Ends, end_of}
+use Rattle.json_string.specs.Ends.{End, Ends, end_of}
 use Rattle.json_characters.specs.Utf8.{utf8}
-use Rattle.json_string.specs.declared.End.{End}
-use Rattle.json_string.specs.declared.Resolved.{Resolved}
-use Rattle.json_string.specs.declared.Resolved.TheVariants.{Bytes, Nothing}
 
 -- the code points of the string whose first character is at p, and the bytes past its closing quotation mark; `bad` where no string stands
 unfoldable pub text_at : List ℕ → ℕ → Got (List ℕ)
@@ -65,15 +62,15 @@ unfoldable pub text_is : List ℕ → ℕ → List ℕ → Bool
 text_is s p w = given (λ cs. same (utf8 cs) w) false (text_at s p)
 
 -- the answer, and what the buffer then holds that held old, of resolving to the octets u
-unfoldable pub resolved : List ℕ → List ℕ → Resolved
-resolved old u = cond (leb (length u) (length old)) (Bytes (length u)) Nothing
+unfoldable pub resolved : List ℕ → List ℕ → Option ℕ
+resolved old u = cond (leb (length u) (length old)) (Some (length u)) None
 
 unfoldable pub resolved_to : List ℕ → List ℕ → List ℕ
 resolved_to old u = cond (leb (length u) (length old)) (laid u old) (cleared old)
 
 -- the same of resolving the string at p; nothing, and zeros, where no string stands
-unfoldable pub resolved_at : List ℕ → ℕ → List ℕ → Resolved
-resolved_at s p old = given (λ cs. resolved old (utf8 cs)) Nothing (text_at s p)
+unfoldable pub resolved_at : List ℕ → ℕ → List ℕ → Option ℕ
+resolved_at s p old = given (λ cs. resolved old (utf8 cs)) None (text_at s p)
 
 unfoldable pub resolved_to_at : List ℕ → ℕ → List ℕ → List ℕ
 resolved_to_at s p old = given (λ cs. resolved_to old (utf8 cs)) (cleared old) (text_at s p)

@@ -1,11 +1,10 @@
 -- Laws of the string at a place, character by character.
-use Rattle.std.specs.Prelude.{◌≡◌, refl, Bool, true, false, List, [], ◌∷◌, ℕ, zero, suc, ◌+◌, ◌≤◌, ◌<◌, drop, get_or}
+use Rattle.std.specs.Prelude.{◌≡◌, refl, Bool, true, false, List, [], ◌∷◌, ℕ, zero, suc, ◌+◌, ◌≤◌, ◌<◌, drop, get_or, Some, None}
 use Rattle.std.proofs.Math.Path.{ap}
 use Rattle.std.proofs.Common.{◌∙◌, arith, drop_of_length-le, ne_eqb}
 use Rattle.std.proofs.Math.ListN.{length}
 use Rattle.json_grammar_rules.specs.Reader.{Got, bad, got, then, over, is_unescaped1, read_char, read_chars}
 use Rattle.json_grammar_rules.proofs.CharLaws.{chars_fuel}
-use Rattle.json_characters.specs.declared.Scan.TheVariants.{Code, Wrong}
 use Rattle.json_characters.specs.Characters.{CharAt}
 use Rattle.json_characters.specs.CharacterLaws.{char_plain, plain_quote}
 use Rattle.json_string.specs.Ends.{at_byte, shorter}
@@ -51,11 +50,11 @@ module _ (s : List ℕ) (p : ℕ) (h : p < length s) where
     text_first : text_at s p ≡ read_on (read_char (drop p s))
     text_first = text_fuel ∙ chars_step after b
 
-    pub text_wrong_lem : CharAt s p Wrong → text_at s p ≡ bad
+    pub text_wrong_lem : CharAt s p None → text_at s p ≡ bad
     unfolding CharAt
     text_wrong_lem w = text_first ∙ ap read_on w
 
-    pub text_step : (c e : ℕ) → CharAt s p (Code c e) → text_at s p ≡ over (λ cs. c ∷ cs) (text_at s e)
+    pub text_step : (c e : ℕ) → CharAt s p (Some (c, e)) → text_at s p ≡ over (λ cs. c ∷ cs) (text_at s e)
     unfolding CharAt text_at
     text_step c e w =
         text_first ∙ ap read_on w.2

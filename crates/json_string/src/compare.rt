@@ -3,9 +3,8 @@ ghost use Rattle.std.specs.Prelude.{◌≡◌, ◌*◌, ◌≤◌, length};
 ghost use Rattle.json_string.specs.Strings.{same_text, text_is, mix, fingerprint_at};
 ghost use Rattle.json_string.specs.Steps.{OctetsEnd};
 
-use crate::End;
 use common::wide;
-use json_characters::{Scan, char_at, is_unescaped1, octets_of};
+use json_characters::{char_at, is_unescaped1, octets_of};
 
 // Whether strings stand at p in s and at q in t, and have the same code points. Rules out a prefix taken for the whole, and strings compared as
 // they are written, before their escapes are resolved.
@@ -24,10 +23,10 @@ pub fn same_text(s: &[u8], p: usize, t: &[u8], q: usize) -> bool
             if b == 0x22 {
                 return false;
             }
-            let Scan::Code(x, i2) = char_at(s, i) else {
+            let Some((x, i2)) = char_at(s, i) else {
                 return false;
             };
-            let Scan::Code(y, j2) = char_at(t, j) else {
+            let Some((y, j2)) = char_at(t, j) else {
                 return false;
             };
             if x == y {
@@ -77,7 +76,7 @@ pub fn fingerprint(s: &[u8], p: usize) -> u64
             if b == 0x22 {
                 return h;
             }
-            let Scan::Code(c, next) = char_at(s, at) else {
+            let Some((c, next)) = char_at(s, at) else {
                 return 0;
             };
             h = mixed(h, c);
@@ -100,7 +99,7 @@ pub fn same_by_fingerprint(s: &[u8], p: usize, t: &[u8], q: usize, f: u64, g: u6
 }
 
 // The place in w after the octets of the code point c, where they stand at `at`.
-fn octets_end(w: &[u8], at: usize, c: u32) -> End
+fn octets_end(w: &[u8], at: usize, c: u32) -> Option<usize>
     requires { (at ≤ length w.now) × (c ≤ 0x10FFFF) }
     ensures { OctetsEnd w.now at c result }
 {
@@ -108,16 +107,16 @@ fn octets_end(w: &[u8], at: usize, c: u32) -> End
     let n = o.count;
     let bytes = o.bytes;
     if w.len() - at < n {
-        return End::Bad;
+        return None;
     }
     let mut i = 0;
     while i < n {
         if w[at + i] != bytes[i] {
-            return End::Bad;
+            return None;
         }
         i += 1;
     }
-    End::At(at + n)
+    Some(at + n)
 }
 
 // Whether a string stands at p that, in UTF-8, is exactly `word`. Rules out a prefix of the word taken for the whole, every character
@@ -142,10 +141,10 @@ pub fn text_is(s: &[u8], p: usize, word: &[u8]) -> bool
             i += 1;
             k += 1;
         } else {
-            let Scan::Code(c, next) = char_at(s, i) else {
+            let Some((c, next)) = char_at(s, i) else {
                 return false;
             };
-            let End::At(e) = octets_end(word, k, c) else {
+            let Some(e) = octets_end(word, k, c) else {
                 return false;
             };
             i = next;

@@ -3,13 +3,12 @@ ghost use Rattle.std.specs.Prelude.{◌≡◌, []};
 ghost use Rattle.json_string.specs.Strings.{resolved_at, resolved_to_at};
 ghost use Rattle.json_string.specs.Steps.{Writes};
 
-use crate::{End, Resolved};
 use common::{copy_at, zero};
-use json_characters::{Scan, char_at, is_unescaped1, octets_of};
+use json_characters::{char_at, is_unescaped1, octets_of};
 
 // Writes the octets of the string at p to the front of `out`, and answers how many they are, if a string stands there and `out` has
 // room for it.
-fn write(s: &[u8], p: usize, out: &mut [u8]) -> End
+fn write(s: &[u8], p: usize, out: &mut [u8]) -> Option<usize>
     ensures { Writes s.now p [] out.old out.new result }
 {
     let mut i = p;
@@ -17,43 +16,39 @@ fn write(s: &[u8], p: usize, out: &mut [u8]) -> End
     while i < s.len() {
         let b = s[i];
         if b == 0x22 {
-            return End::At(n);
+            return Some(n);
         }
         if is_unescaped1(b) {
             if out.len() <= n {
-                return End::Bad; // full
+                return None; // full
             }
             out[n] = b;
             n += 1;
             i += 1;
         } else {
-            let Scan::Code(c, next) = char_at(s, i) else {
-                return End::Bad;
-            };
+            let (c, next) = char_at(s, i)?;
             let o = octets_of(c);
             let count = o.count;
             let bytes = o.bytes;
             if out.len() - n < count {
-                return End::Bad; // no room
+                return None; // no room
             }
             copy_at(out, n, &bytes[..count]);
             n += count;
             i = next;
         }
     }
-    End::Bad // no closing quotation mark
+    None // no closing quotation mark
 }
 
 // Writes the string at p, in UTF-8, to the front of `out`, or clears `out` where it has no room for all of it or no string stands
-// at p. Rules out octets cut off at the buffer's end, characters counted for octets, and octets of a text that breaks off.
-pub fn resolve(s: &[u8], p: usize, out: &mut [u8]) -> Resolved
+// at p; answers how many octets it wrote, or none. Rules out octets cut off at the buffer's end, characters counted for octets, and octets of a text that breaks off.
+pub fn resolve(s: &[u8], p: usize, out: &mut [u8]) -> Option<usize>
     ensures { (result ≡ resolved_at s.now p out.old) × (out.new ≡ resolved_to_at s.now p out.old) }
 {
-    match write(s, p, out) {
-        End::At(n) => Resolved::Bytes(n),
-        End::Bad => {
-            zero(out);
-            Resolved::Nothing
-        }
+    let written = write(s, p, out);
+    if written.is_none() {
+        zero(out);
     }
+    written
 }

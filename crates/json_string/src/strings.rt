@@ -2,12 +2,11 @@
 ghost use Rattle.std.specs.Prelude.{◌≡◌};
 ghost use Rattle.json_string.specs.Strings.{string_end};
 
-use crate::End;
-use json_characters::{Scan, char_at, is_unescaped1};
+use json_characters::{char_at, is_unescaped1};
 
 // The place after a string's closing quotation mark, if one stands there; `from` is the place after the opening one. Rules out an end at an escape, and
 // the quotation mark's own place.
-pub fn string_end(s: &[u8], from: usize) -> End
+pub fn string_end(s: &[u8], from: usize) -> Option<usize>
     ensures { result ≡ string_end s.now from }
 {
     let mut at = from;
@@ -17,13 +16,11 @@ pub fn string_end(s: &[u8], from: usize) -> End
             at += 1;
         } else {
             if b == 0x22 {
-                return End::At(at + 1);
+                return Some(at + 1);
             }
-            let Scan::Code(_, next) = char_at(s, at) else {
-                return End::Bad;
-            };
+            let (_, next) = char_at(s, at)?;
             at = next;
         }
     }
-    End::Bad
+    None
 }

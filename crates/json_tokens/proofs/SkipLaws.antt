@@ -1,4 +1,5 @@
 -- What is passed over: bytes that pass a test, and the bytes of a word.
+use Rattle.std.specs.Prelude.{Some, None}
 use mathlib.Core.Path.{◌≡◌}
 use mathlib.Core.Bool.{Bool, true, false}
 use mathlib.Core.List.{List}
@@ -7,7 +8,6 @@ use native.Mathlib.Omega.{arith}
 use lib.ListN.{length, drop, get_or, drop_of_length-le}
 use borrow.Author.Tests.{eq-eqb, ne_eqb}
 use Rattle.json_grammar_rules.specs.Reader.{skip, word}
-use Rattle.json_string.specs.declared.End.TheVariants.{At, Bad}
 use Rattle.json_string.specs.Ends.{at_byte}
 use Rattle.json_tokens.specs.Tokens.{skip_to, word_end}
 use Rattle.json_tokens.specs.TokenLaws.{skip_shorter}
@@ -36,14 +36,14 @@ module _ (w s : List ℕ) (i at : ℕ) where
       let n : at + suc (length (drop (i + 1) w)) ≡ at + 1 + length (drop (i + 1) w) = omega arith in
       rw (at_byte w i k, at_byte s at h, eq-eqb (get_or s at 0) (get_or w i 0) e, word, n)
 
-  pub word_other : i < length w → at < length s → (get_or s at 0 ≡ get_or w i 0 → ⊥) → word_end (drop i w) s at ≡ Bad
+  pub word_other : i < length w → at < length s → (get_or s at 0 ≡ get_or w i 0 → ⊥) → word_end (drop i w) s at ≡ None
   unfolding word_end word
   word_other k h e = rw (at_byte w i k, at_byte s at h, ne_eqb (get_or s at 0) (get_or w i 0) e, word)
 
-  pub word_out : i < length w → length s ≤ at → word_end (drop i w) s at ≡ Bad
+  pub word_out : i < length w → length s ≤ at → word_end (drop i w) s at ≡ None
   unfolding word_end word
   word_out k h = rw (at_byte w i k, drop_of_length-le s h)
 
-  pub word_done : length w ≤ i → word_end (drop i w) s at ≡ At at
+  pub word_done : length w ≤ i → word_end (drop i w) s at ≡ Some at
   unfolding word_end word
   word_done k = let n : at + 0 ≡ at = omega arith in rw (drop_of_length-le w k, n)

@@ -1,23 +1,21 @@
 -- Laws of where readers end: a reader that is built of others ends where its parts do.
-use Rattle.std.specs.Prelude.{◌≡◌, refl, List, [], ◌∷◌, ℕ, zero, suc, ◌≤◌, ◌<◌, ◌+◌, ◌-◌, length, drop, get_or}
+use Rattle.std.specs.Prelude.{◌≡◌, refl, List, [], ◌∷◌, ℕ, zero, suc, ◌≤◌, ◌<◌, ◌+◌, ◌-◌, length, drop, get_or, Some, None}
 use Rattle.std.proofs.Common.{sym, ap, ◌∙◌, arith, sub-one, drop_of_length-le}
 use Rattle.json_grammar_rules.specs.Reader.{Got, bad, got, then, over, deeper}
 use Rattle.json_grammar_rules.proofs.Fuel.{Steady}
-use Rattle.json_string.specs.declared.End.{End}
-use Rattle.json_string.specs.declared.End.TheVariants.{At, Bad}
-use Rattle.json_string.specs.Ends.{Ends, end_of, at_byte, pos_left, ends_end, ends_at, ends_bad, ends_over, ends_from, by, left, shorter, fuel}
+use Rattle.json_string.specs.Ends.{End, Ends, end_of, at_byte, pos_left, ends_end, ends_at, ends_bad, ends_over, ends_from, by, left, shorter, fuel}
 use Rattle.json_tokens.specs.Tokens.{MovesTo, EndsBy}
 
 module _ {A : Type 0} {f : ℕ → List ℕ → Got A} {s : List ℕ} {at l : ℕ} where
   -- what a reader gives that ends at a place, and what one gives that ends nowhere
-  pub given : {e : ℕ} → EndsBy f s at l (At e) → (n : ℕ) → length (drop at s) ≤ n → (a : A) × (f n (drop at s) ≡ got a (drop e s))
+  pub given : {e : ℕ} → EndsBy f s at l (Some e) → (n : ℕ) → length (drop at s) ≤ n → (a : A) × (f n (drop at s) ≡ got a (drop e s))
   given {e} h n k = let g = ends_at s l e (f n (drop at s)) (h.ends n k) in (g.0, g.1)
 
-  pub none : EndsBy f s at l Bad → (n : ℕ) → length (drop at s) ≤ n → f n (drop at s) ≡ bad
+  pub none : EndsBy f s at l None → (n : ℕ) → length (drop at s) ≤ n → f n (drop at s) ≡ bad
   none h n k = ends_bad s l (f n (drop at s)) (h.ends n k)
 
   -- where the end lies
-  pub bounds : {e : ℕ} → EndsBy f s at l (At e) → (l ≤ e) × (e ≤ length s)
+  pub bounds : {e : ℕ} → EndsBy f s at l (Some e) → (l ≤ e) × (e ≤ length s)
   bounds {e} h = let g = ends_at s l e (f (length (drop at s)) (drop at s)) (h.ends (length (drop at s)) (omega arith)) in (g.2, g.3)
 
   -- the end as an equation
@@ -35,13 +33,13 @@ module _ {A : Type 0} {f : ℕ → List ℕ → Got A} {s : List ℕ} {at l : �
   same {g} {r} e h = record { ends = λ n k. by s l r _ _ (e n) (h.ends n k) }
 
   -- a reader that is done, one that is wrong, one that has no byte left
-  pub done : {e : ℕ} (a : A) → l ≤ e → e ≤ length s → ((n : ℕ) → f n (drop at s) ≡ got a (drop e s)) → EndsBy f s at l (At e)
-  done {e} a h k q = record { ends = λ n _. by s l (At e) _ (got a (drop e s)) (q n) (h, k, refl) }
+  pub done : {e : ℕ} (a : A) → l ≤ e → e ≤ length s → ((n : ℕ) → f n (drop at s) ≡ got a (drop e s)) → EndsBy f s at l (Some e)
+  done {e} a h k q = record { ends = λ n _. by s l (Some e) _ (got a (drop e s)) (q n) (h, k, refl) }
 
-  pub wrong : ((n : ℕ) → f n (drop at s) ≡ bad) → EndsBy f s at l Bad
-  wrong q = record { ends = λ n _. by s l Bad _ bad (q n) tt }
+  pub wrong : ((n : ℕ) → f n (drop at s) ≡ bad) → EndsBy f s at l None
+  wrong q = record { ends = λ n _. by s l None _ bad (q n) tt }
 
-  pub out : length s ≤ at → ((n : ℕ) → f n [] ≡ bad) → EndsBy f s at l Bad
+  pub out : length s ≤ at → ((n : ℕ) → f n [] ≡ bad) → EndsBy f s at l None
   out h q = wrong (λ n. ap (f n) (drop_of_length-le s h) ∙ q n)
 
 -- .. and back, for a reader that gives the same with any fuel and takes some bytes
@@ -75,15 +73,15 @@ module _ {A : Type 0} {f : ℕ → List ℕ → Got A} {s : List ℕ} {at l : �
     first_same q k = by_first (λ n j. by s l r _ _ (q n ∙ ap (g (suc n)) (sym (at_byte s at h))) (k.ends (suc n) (omega (arith, ap length (at_byte s at h)))))
 
   -- it ends the reading, well or not
-  pub first_only : (a : A) → ((n : ℕ) → f (suc n) (get_or s at 0 ∷ drop (at + 1) s) ≡ got a (drop (at + 1) s)) → EndsBy f s at l (At (at + 1))
-  first_only a q = by_first (λ n j. by s l (At (at + 1)) _ _ (q n) (low, omega arith, refl))
+  pub first_only : (a : A) → ((n : ℕ) → f (suc n) (get_or s at 0 ∷ drop (at + 1) s) ≡ got a (drop (at + 1) s)) → EndsBy f s at l (Some (at + 1))
+  first_only a q = by_first (λ n j. by s l (Some (at + 1)) _ _ (q n) (low, omega arith, refl))
 
-  pub first_bad : ((n : ℕ) → f (suc n) (get_or s at 0 ∷ drop (at + 1) s) ≡ bad) → EndsBy f s at l Bad
-  first_bad q = by_first (λ n j. by s l Bad _ _ (q n) tt)
+  pub first_bad : ((n : ℕ) → f (suc n) (get_or s at 0 ∷ drop (at + 1) s) ≡ bad) → EndsBy f s at l None
+  first_bad q = by_first (λ n j. by s l None _ _ (q n) tt)
 
 -- A reader, and one that goes on where it ends: k is given the bytes at the start, and what was read.
 module _ {A B : Type 0} {f : ℕ → List ℕ → Got A} {s : List ℕ} {at l : ℕ} (low : at ≤ l) (k : List ℕ → A → ℕ → List ℕ → Got B) where
-  pub bind : {e : ℕ} {r : End} → EndsBy f s at l (At e) → ((a : A) → EndsBy (k (drop at s) a) s e e r) → EndsBy (λ n x. then (f n x) (λ a y. k x a n y)) s at l r
+  pub bind : {e : ℕ} {r : End} → EndsBy f s at l (Some e) → ((a : A) → EndsBy (k (drop at s) a) s e e r) → EndsBy (λ n x. then (f n x) (λ a y. k x a n y)) s at l r
   bind {e} {r} h rest = record {
     ends = λ n j.
         let g = given h n j in
@@ -91,8 +89,8 @@ module _ {A B : Type 0} {f : ℕ → List ℕ → Got A} {s : List ℕ} {at l : 
         by s l r _ _ (ap (λ (x : Got A). then x (λ a y. k (drop at s) a n y)) g.1) (ends_from s l e r _ b.0 ((rest g.0).ends n (shorter s at e n (omega (arith, b.0)) j)));
   }
 
-  pub bind_bad : EndsBy f s at l Bad → EndsBy (λ n x. then (f n x) (λ a y. k x a n y)) s at l Bad
-  bind_bad h = record { ends = λ n j. by s l Bad _ bad (ap (λ (x : Got A). then x (λ a y. k (drop at s) a n y)) (none h n j)) tt }
+  pub bind_bad : EndsBy f s at l None → EndsBy (λ n x. then (f n x) (λ a y. k x a n y)) s at l None
+  bind_bad h = record { ends = λ n j. by s l None _ bad (ap (λ (x : Got A). then x (λ a y. k (drop at s) a n y)) (none h n j)) tt }
 
 -- A reader whose result is changed.
 module _ {A B : Type 0} {f : ℕ → List ℕ → Got A} {s : List ℕ} {at l : ℕ} where
@@ -100,8 +98,8 @@ module _ {A B : Type 0} {f : ℕ → List ℕ → Got A} {s : List ℕ} {at l : 
   map {r} g h = record { ends = λ n j. ends_over s l r (g n (drop at s)) (f n (drop at s)) (h.ends n j) }
 
   pub renamed : (r : End) (g : List ℕ → A → List ℕ → B) → at ≤ l → EndsBy f s at l r → EndsBy (λ n x. then (f n x) (λ a y. got (g x a y) y)) s at l r
-  renamed (At e) g low h = bind low (λ x a n y. got (g x a y) y) h (λ a. done (g (drop at s) a (drop e s)) (omega arith) (bounds h).1 (λ n. refl))
-  renamed Bad g low h = bind_bad low (λ x a n y. got (g x a y) y) h
+  renamed (Some e) g low h = bind low (λ x a n y. got (g x a y) y) h (λ a. done (g (drop at s) a (drop e s)) (omega arith) (bounds h).1 (λ n. refl))
+  renamed None g low h = bind_bad low (λ x a n y. got (g x a y) y) h
 
 module _ {A : Type 0} {s : List ℕ} {from l : ℕ} {r : End} where
   -- A reader of what stands past bytes that are passed over.

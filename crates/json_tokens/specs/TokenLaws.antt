@@ -15,8 +15,7 @@ use Rattle.json_grammar_rules.proofs.NumberLaws.{number_sound}
 use Rattle.json_grammar_rules.proofs.Written.{number}
 use Rattle.json_grammar_rules.proofs.Endings.{yield_leaves}
 use Rattle.json_grammar_rules.proofs.Fuel.{Steady}
-use Rattle.json_string.specs.declared.End.{End}
-use Rattle.json_string.specs.Ends.{Ends}
+use Rattle.json_string.specs.Ends.{End, Ends}
 use Rattle.json_tokens.specs.Tokens.{skip_to, skip_ws, MovesTo, SkipsTo, NumberEnds, number_end, WordEnds, end_at, word_end}
 use Rattle.json_tokens.specs.EndsLaws.{ended, is_end, ends_of}
 

@@ -1,10 +1,8 @@
 -- What the contracts say: where the readers of `json_grammar_rules`'s Reader, started at a place of a slice, end.
-use Rattle.std.specs.Prelude.{◌≡◌, Bool, List, ℕ, ◌≤◌, ◌+◌, ◌-◌, length, drop}
+use Rattle.std.specs.Prelude.{◌≡◌, Bool, List, ℕ, ◌≤◌, ◌+◌, ◌-◌, length, drop, Some, None}
 use Rattle.json_grammar_rules.specs.Bytes.{is_ws}
 use Rattle.json_grammar_rules.specs.Reader.{Got, Past, bad, got, skip, ws, past_digits, past_int, past_frac, past_exp, past_unsigned, past_number, word}
-use Rattle.json_string.specs.declared.End.{End}
-use Rattle.json_string.specs.declared.End.TheVariants.{At, Bad}
-use Rattle.json_string.specs.Ends.{Ends, end_of}
+use Rattle.json_string.specs.Ends.{End, Ends, end_of}
 
 -- WHITE SPACE, and digits
 
@@ -58,8 +56,8 @@ WordEnds w s at r = EndsBy (λ _ x. word w x) s at at r
 
 -- e, where something was read
 abbrev pub end_at : ℕ → Past → End
-end_at e (got a r) = At e
-end_at e bad = Bad
+end_at e (got a r) = Some e
+end_at e bad = None
 
 unfoldable pub word_end : List ℕ → List ℕ → ℕ → End
 word_end w s at = end_at (at + length w) (word w (drop at s))

@@ -5,7 +5,6 @@ ghost use Rattle.json_grammar_rules.specs.Reader.{optional};
 ghost use Rattle.json_tokens.specs.Tokens.{skip_to, MovesTo, DigitsEnd, IntEnds, FracEnds, ExpEnds, UnsignedEnds, number_end};
 
 use json_characters::between;
-use json_string::End;
 
 // Whether b is x or y.
 fn either(x: u8, y: u8, b: u8) -> bool
@@ -30,47 +29,47 @@ fn skip_digits(s: &[u8], from: usize) -> usize
 }
 
 // 1*DIGIT
-fn digits_end(s: &[u8], at: usize) -> End
+fn digits_end(s: &[u8], at: usize) -> Option<usize>
     ensures { DigitsEnd s.now at result }
 {
     if at >= s.len() {
-        return End::Bad;
+        return None;
     }
     if between(0x30, 0x39, s[at]) {
-        return End::At(skip_digits(s, at + 1));
+        return Some(skip_digits(s, at + 1));
     }
-    End::Bad // no digit
+    None // no digit
 }
 
 // int = zero / ( digit1-9 *DIGIT )
-fn int_end(s: &[u8], at: usize) -> End
+fn int_end(s: &[u8], at: usize) -> Option<usize>
     ensures { IntEnds s.now at result }
 {
     if at >= s.len() {
-        return End::Bad;
+        return None;
     }
     let b = s[at];
     if between(0x31, 0x39, b) {
-        return End::At(skip_digits(s, at + 1));
+        return Some(skip_digits(s, at + 1));
     }
     if b == 0x30 {
-        return End::At(at + 1);
+        return Some(at + 1);
     }
-    End::Bad // no number
+    None // no number
 }
 
 // [ frac ], frac = decimal-point 1*DIGIT
-fn frac_end(s: &[u8], at: usize) -> End
+fn frac_end(s: &[u8], at: usize) -> Option<usize>
     requires { at ≤ length s.now }
     ensures { FracEnds s.now at result }
 {
     if at >= s.len() {
-        return End::At(at);
+        return Some(at);
     }
     if s[at] == 0x2E {
         return digits_end(s, at + 1);
     }
-    End::At(at)
+    Some(at)
 }
 
 // [ minus / plus ]
@@ -87,35 +86,31 @@ fn skip_sign(s: &[u8], at: usize) -> usize
 }
 
 // [ exp ], exp = e [ minus / plus ] 1*DIGIT
-fn exp_end(s: &[u8], at: usize) -> End
+fn exp_end(s: &[u8], at: usize) -> Option<usize>
     requires { at ≤ length s.now }
     ensures { ExpEnds s.now at result }
 {
     if at >= s.len() {
-        return End::At(at);
+        return Some(at);
     }
     if either(0x65, 0x45, s[at]) {
         return digits_end(s, skip_sign(s, at + 1));
     }
-    End::At(at)
+    Some(at)
 }
 
 // int [ frac ] [ exp ]
-fn unsigned_end(s: &[u8], at: usize) -> End
+fn unsigned_end(s: &[u8], at: usize) -> Option<usize>
     ensures { UnsignedEnds s.now at result }
 {
-    match int_end(s, at) {
-        End::At(f) => match frac_end(s, f) {
-            End::At(x) => exp_end(s, x),
-            End::Bad => End::Bad,
-        },
-        End::Bad => End::Bad,
-    }
+    let f = int_end(s, at)?;
+    let x = frac_end(s, f)?;
+    exp_end(s, x)
 }
 
 // The place after the number at `at`.
 // Rules out a number with a leading zero taken whole, and an exponent without digits.
-pub fn number_end(s: &[u8], at: usize) -> End
+pub fn number_end(s: &[u8], at: usize) -> Option<usize>
     requires { at < length s.now }
     ensures { result ≡ number_end s.now at }
 {

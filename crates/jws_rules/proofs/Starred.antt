@@ -9,9 +9,8 @@ use Rattle.json_grammar_rules.specs.Bytes.{within, is_ws, is_digit, is_digit19, 
 use Rattle.json_grammar_rules.specs.Value.{among, repeated, names, twice, plain, plain_members, string_v, mcons, mnil}
 use Rattle.json_grammar_rules.specs.Grammar.{Derivation, bytes, reading_of}
 use Rattle.json_grammar_rules.specs.Reader.{read, read_value, read_chars, read_char, char_lead, escape_lead_of, is_unescaped1, past_number, word, value_lead, skip}
-use Rattle.json_rules.specs.Answers.{place}
+use Rattle.json_rules.specs.Answers.{Refused as RefusedMember, Array, String as Text, place}
 use Rattle.json_rules.specs.Tests.{length_test}
-use Rattle.json_rules.specs.declared.Member.TheVariants.{Refused as RefusedMember, Array, String as Text}
 use Rattle.json_rules.proofs.Rows.{answers, rows, spellings}
 use Rattle.keytable_rules.specs.Key.{Key}
 use Rattle.decimal_rules.specs.Integer.{integer_of, all_digits, after}

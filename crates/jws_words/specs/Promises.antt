@@ -1,9 +1,7 @@
 -- What the exported functions promise of the words that they write: all are 0 after a refusal; word 3 of a record is 1 after acceptance; and the payload's length is that of the payload call.
 use Rattle.std.specs.Prelude.{◌≡◌, refl, List, ℕ, length, replicate, get_or}
 use Rattle.std.proofs.Common.{sym, arith, length-take-le, le-leb}
-use Rattle.json_rules.specs.declared.Member.{Member}
-use Rattle.json_rules.specs.declared.Member.TheVariants.{String, Number, True, False, Null, Array, Object, Refused}
-use Rattle.json_rules.specs.Answers.{number_of, values_of}
+use Rattle.json_rules.specs.Answers.{Member, String, Number, True, False, Null, Array, Object, Refused, number_of, values_of}
 use Rattle.jws_rules.specs.declared.Record.{Record}
 use Rattle.jws_rules.specs.Calls.{VerifyCall, SignCall}
 use Rattle.jws_rules.specs.Outcomes.{payload, part_length}

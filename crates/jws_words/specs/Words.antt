@@ -2,8 +2,7 @@
 use Rattle.std.specs.Prelude.{cond, List, [], ◌∷◌, ℕ, get_or}
 use Rattle.std.proofs.Math.Option.{Option, none, some}
 use Rattle.json_grammar_rules.specs.Places.{MemberPlaces}
-use Rattle.json_rules.specs.declared.Member.{Member}
-use Rattle.json_rules.specs.Answers.{values_of, kind_number}
+use Rattle.json_rules.specs.Answers.{Member, values_of, kind_number}
 use Rattle.jws_rules.specs.declared.Record.{Record}
 use Rattle.jws_rules.specs.Outcomes.{VerifyOutcome, SignOutcome, part_length}
 

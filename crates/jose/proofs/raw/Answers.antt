@@ -8,4 +8,4 @@ pub returns-in_default : goal.returns-in_default
 returns-in_default c = sym (ap raw_of c.in_default.is)
 
 pub returns : goal.returns
-returns c = raw_made c.in-Is.is c.size.ensures
+returns c = raw_made c.in-Some.is c.size.ensures

@@ -2,11 +2,11 @@
 use Rattle.json_check.proofs.TextLaws as law
 use Rattle.json_check.proofs.check_text.Goals as goal
 
-pub returns-then-twice_from : goal.returns-then-twice_from
-returns-then-twice_from c = law.text_twice _ _ c.text.ensures c.if-text.true c.twice_from.ensures c.if-twice_from.true
+pub returns-then-not-text : goal.returns-then-not-text
+returns-then-not-text c = law.text_other _ _ c.text.ensures c.if-not-text.true
 
-pub returns-then-text : goal.returns-then-text
-returns-then-text c = law.text_fine _ _ c.text.ensures c.if-text.true c.twice_from.ensures c.if-twice_from.false
+pub returns-then-twice_from : goal.returns-then-twice_from
+returns-then-twice_from c = law.text_twice _ _ c.text.ensures c.if-not-text.false c.twice_from.ensures c.if-twice_from.true
 
 pub returns : goal.returns
-returns c = law.text_other _ _ c.text.ensures c.if-text.false
+returns c = law.text_fine _ _ c.text.ensures c.if-not-text.false c.twice_from.ensures c.if-twice_from.false

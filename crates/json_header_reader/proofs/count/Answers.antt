@@ -1,8 +1,7 @@
 -- `count` meets its contract: the reader goes on at each member, and stops where all are counted.
 use Rattle.std.proofs.Common.{◌≡◌, ◌∙◌, ℕ, ◌+◌, ◌<◌, List, sym, ap, arith}
 use borrow.Author.Tests.{lt-ltb}
-use Rattle.json_rules.specs.declared.Member.{Member}
-use Rattle.json_rules.specs.Answers.{number_of}
+use Rattle.json_rules.specs.Answers.{Member, number_of}
 use Rattle.json_rules.specs.Tests.{member_of}
 use Rattle.json_header_reader.specs.Following.{greatest, following_of}
 use Rattle.json_header_reader.specs.Counting.{ended_at}

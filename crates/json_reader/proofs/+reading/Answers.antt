@@ -27,23 +27,23 @@ arrays::array-returns t c = law.opened_some seq.elements _ c.if-depth-eq0.false 
 pub arrays::elements-loop-e-init : goal.arrays::elements-loop-e-init
 arrays::elements-loop-e-init t c = (omega arith, λ r h. h)
 
-pub arrays::elements-returns-in_default : goal.arrays::elements-returns-in_default
-arrays::elements-returns-in_default t c = c.loop-e.invariant.1 _ (law.list_bad seq.elements _ (ended c.in_default.is c.value.ensures))
+pub arrays::elements-returns-in_err-e : goal.arrays::elements-returns-in_err-e
+arrays::elements-returns-in_err-e t c = rw c.from_residual.ensures (c.loop-e.invariant.1 _ (law.list_bad seq.elements _ (ended c.in_err-e.was c.value.ensures)))
 
 pub arrays::elements-returns-then-e-s : goal.arrays::elements-returns-then-e-s
-arrays::elements-returns-then-e-s t c = c.loop-e.invariant.1 _ (law.list_out seq.elements _ (ended c.in-At.is c.value.ensures) c.if-e-s.true)
+arrays::elements-returns-then-e-s t c = c.loop-e.invariant.1 _ (law.list_out seq.elements _ (ended c.in_ok-e.was c.value.ensures) c.if-e-s.true)
 
 pub arrays::elements-returns-then-b-eq93 : goal.arrays::elements-returns-then-b-eq93
-arrays::elements-returns-then-b-eq93 t c = c.loop-e.invariant.1 _ (law.list_close seq.elements _ (ended c.in-At.is c.value.ensures) c.if-e-s.false c.if-b-eq93.true)
+arrays::elements-returns-then-b-eq93 t c = c.loop-e.invariant.1 _ (law.list_close seq.elements _ (ended c.in_ok-e.was c.value.ensures) c.if-e-s.false c.if-b-eq93.true)
 
 pub arrays::elements-returns-then-b-ne44 : goal.arrays::elements-returns-then-b-ne44
-arrays::elements-returns-then-b-ne44 t c = c.loop-e.invariant.1 _ (law.list_other seq.elements _ (ended c.in-At.is c.value.ensures) c.if-e-s.false c.if-b-eq93.false c.if-b-ne44.true)
+arrays::elements-returns-then-b-ne44 t c = c.loop-e.invariant.1 _ (law.list_other seq.elements _ (ended c.in_ok-e.was c.value.ensures) c.if-e-s.false c.if-b-eq93.false c.if-b-ne44.true)
 
 pub arrays::elements-loop-e-smaller : goal.arrays::elements-loop-e-smaller
-arrays::elements-loop-e-smaller t c = omega (arith, (bounds (ended c.in-At.is c.value.ensures)).0)
+arrays::elements-loop-e-smaller t c = omega (arith, (bounds (ended c.in_ok-e.was c.value.ensures)).0)
 
 pub arrays::elements-loop-e-preserved : goal.arrays::elements-loop-e-preserved
-arrays::elements-loop-e-preserved t c = let k = ended c.in-At.is c.value.ensures in (omega (arith, (bounds k).0), λ r h. c.loop-e.invariant.1 r (law.elements_comma _ k c.if-e-s.false c.if-b-ne44.false h))
+arrays::elements-loop-e-preserved t c = let k = ended c.in_ok-e.was c.value.ensures in (omega (arith, (bounds k).0), λ r h. c.loop-e.invariant.1 r (law.elements_comma _ k c.if-e-s.false c.if-b-ne44.false h))
 
 pub objects::after_name-returns-then-at-s : goal.objects::after_name-returns-then-at-s
 objects::after_name-returns-then-at-s t c = law.colon_out _ (skips c.skip_ws-at.ensures) c.if-at-s.true
@@ -64,34 +64,34 @@ pub objects::member-returns-then-s-from-ne34 : goal.objects::member-returns-then
 objects::member-returns-then-s-from-ne34 t c = law.member_no_quote _ c.if-from-s.false c.if-s-from-ne34.true
 
 pub objects::member-after_name-requires : goal.objects::member-after_name-requires
-objects::member-after_name-requires t c = omega (arith, law.string_bounds _ _ _ (rw c.in-At.is at c.string_end.ensures))
+objects::member-after_name-requires t c = omega (arith, law.string_bounds _ _ _ (rw c.in_ok-q.was at c.string_end.ensures))
 
-pub objects::member-returns-in-At : goal.objects::member-returns-in-At
-objects::member-returns-in-At t c = law.member_is _ c.if-from-s.false c.if-s-from-ne34.false (rw c.in-At.is at c.string_end.ensures) c.after_name.ensures
+pub objects::member-returns : goal.objects::member-returns
+objects::member-returns t c = law.member_is _ c.if-from-s.false c.if-s-from-ne34.false (rw c.in_ok-q.was at c.string_end.ensures) c.after_name.ensures
 
-pub objects::member-returns-in-Bad : goal.objects::member-returns-in-Bad
-objects::member-returns-in-Bad t c = law.member_name_bad _ c.if-from-s.false c.if-s-from-ne34.false (rw c.in-Bad.is at c.string_end.ensures)
+pub objects::member-returns-in_err-q : goal.objects::member-returns-in_err-q
+objects::member-returns-in_err-q t c = rw c.from_residual.ensures (law.member_name_bad _ c.if-from-s.false c.if-s-from-ne34.false (rw c.in_err-q.was at c.string_end.ensures))
 
 pub objects::member_list-loop-e-init : goal.objects::member_list-loop-e-init
 objects::member_list-loop-e-init t c = (omega arith, λ r h. h)
 
-pub objects::member_list-returns-in_default : goal.objects::member_list-returns-in_default
-objects::member_list-returns-in_default t c = c.loop-e.invariant.1 _ (law.list_bad seq.members _ (ended c.in_default.is c.member.ensures))
+pub objects::member_list-returns-in_err-e : goal.objects::member_list-returns-in_err-e
+objects::member_list-returns-in_err-e t c = rw c.from_residual.ensures (c.loop-e.invariant.1 _ (law.list_bad seq.members _ (ended c.in_err-e.was c.member.ensures)))
 
 pub objects::member_list-returns-then-e-s : goal.objects::member_list-returns-then-e-s
-objects::member_list-returns-then-e-s t c = c.loop-e.invariant.1 _ (law.list_out seq.members _ (ended c.in-At.is c.member.ensures) c.if-e-s.true)
+objects::member_list-returns-then-e-s t c = c.loop-e.invariant.1 _ (law.list_out seq.members _ (ended c.in_ok-e.was c.member.ensures) c.if-e-s.true)
 
 pub objects::member_list-returns-then-b-eq125 : goal.objects::member_list-returns-then-b-eq125
-objects::member_list-returns-then-b-eq125 t c = c.loop-e.invariant.1 _ (law.list_close seq.members _ (ended c.in-At.is c.member.ensures) c.if-e-s.false c.if-b-eq125.true)
+objects::member_list-returns-then-b-eq125 t c = c.loop-e.invariant.1 _ (law.list_close seq.members _ (ended c.in_ok-e.was c.member.ensures) c.if-e-s.false c.if-b-eq125.true)
 
 pub objects::member_list-returns-then-b-ne44 : goal.objects::member_list-returns-then-b-ne44
-objects::member_list-returns-then-b-ne44 t c = c.loop-e.invariant.1 _ (law.list_other seq.members _ (ended c.in-At.is c.member.ensures) c.if-e-s.false c.if-b-eq125.false c.if-b-ne44.true)
+objects::member_list-returns-then-b-ne44 t c = c.loop-e.invariant.1 _ (law.list_other seq.members _ (ended c.in_ok-e.was c.member.ensures) c.if-e-s.false c.if-b-eq125.false c.if-b-ne44.true)
 
 pub objects::member_list-loop-e-smaller : goal.objects::member_list-loop-e-smaller
-objects::member_list-loop-e-smaller t c = omega (arith, (bounds (ended c.in-At.is c.member.ensures)).0, (skips c.skip_ws-at.ensures).low)
+objects::member_list-loop-e-smaller t c = omega (arith, (bounds (ended c.in_ok-e.was c.member.ensures)).0, (skips c.skip_ws-at.ensures).low)
 
 pub objects::member_list-loop-e-preserved : goal.objects::member_list-loop-e-preserved
-objects::member_list-loop-e-preserved t c = let k = ended c.in-At.is c.member.ensures in let w = skips c.skip_ws-at.ensures in (omega (arith, (bounds k).0, w.low), λ r h. c.loop-e.invariant.1 r (law.members_comma _ k c.if-e-s.false c.if-b-ne44.false w h))
+objects::member_list-loop-e-preserved t c = let k = ended c.in_ok-e.was c.member.ensures in let w = skips c.skip_ws-at.ensures in (omega (arith, (bounds k).0, w.low), λ r h. c.loop-e.invariant.1 r (law.members_comma _ k c.if-e-s.false c.if-b-ne44.false w h))
 
 pub objects::object-returns-then-depth-eq0 : goal.objects::object-returns-then-depth-eq0
 objects::object-returns-then-depth-eq0 t c = law.opened_deep seq.members _ c.if-depth-eq0.true
@@ -111,11 +111,11 @@ objects::object-returns t c = law.opened_some seq.members _ c.if-depth-eq0.false
 pub values::value-bare-requires : goal.values::value-bare-requires
 values::value-bare-requires t c = omega (arith, (skips c.skip_ws-at.ensures).low)
 
-pub values::value-returns-in-At : goal.values::value-returns-in-At
-values::value-returns-in-At t c = law.value_is _ (skips c.skip_ws-at.ensures) (sym c.in-At.is ∙ c.bare.ensures) (skips c.skip_ws.ensures)
+pub values::value-returns : goal.values::value-returns
+values::value-returns t c = law.value_is _ (skips c.skip_ws-at.ensures) (sym c.in_ok-e.was ∙ c.bare.ensures) (skips c.skip_ws.ensures)
 
-pub values::value-returns-in-Bad : goal.values::value-returns-in-Bad
-values::value-returns-in-Bad t c = law.value_bad _ (skips c.skip_ws-at.ensures) (sym c.in-Bad.is ∙ c.bare.ensures)
+pub values::value-returns-in_err-e : goal.values::value-returns-in_err-e
+values::value-returns-in_err-e t c = rw c.from_residual.ensures (law.value_bad _ (skips c.skip_ws-at.ensures) (sym c.in_err-e.was ∙ c.bare.ensures))
 
 pub values::bare-returns-then-at-s : goal.values::bare-returns-then-at-s
 values::bare-returns-then-at-s t c = bare_is _ (law.bare_out _ c.if-at-s.true)

@@ -1,7 +1,7 @@
 -- At each call the bytes left fall, or else a weight does. A loop keeps that what is right for the rest of a list is right for the whole.
 use Prim.Native.Nat.{◌≤◌, ◌-◌, ◌*◌, ◌+◌}
 use lib.ListN.{length}
-use Rattle.json_string.specs.declared.End.{End}
+use Rattle.json_string.specs.Ends.{End}
 use Rattle.json_reader.specs.Reads.{ElementsEnd, MembersEnd}
 use Rattle.json_reader.proofs.+reading.Given as goal
 

@@ -2,32 +2,35 @@
 use mathlib.Core.Path.{sym, ◌∙◌}
 use Prim.Native.Nat.{◌-◌}
 use native.Mathlib.Omega.{arith}
-use borrow.Author.Tests.{not-true, not-false}
 use Rattle.common.specs.Ascii.{ascii}
 use Rattle.json_members.specs.StepLaws.{item_at_lem}
 use Rattle.jose_rules.specs.Names.{fmt}
-use Rattle.jose_facts.proofs.CriticalNames.{names_next, names_last, names_wrong}
+use Rattle.jose_facts.proofs.SlotFacts.{kind_differs, kind_agrees}
+use Rattle.jose_facts.proofs.CriticalNames.{names_next, names_last, names_wrong, names_nothing}
 use Rattle.jose_facts.proofs.critical.names_from.Goals as goal
 
-pub returns-then-not-is_string : goal.returns-then-not-is_string
-returns-then-not-is_string c =
-    c.loop-i.invariant.1 _ (names_wrong (item_at_lem _ _ _ c.item_at-i.ensures) (sym c.is_string.ensures ∙ not-true _ c.if-not-is_string.true-raw))
+pub returns-in_default : goal.returns-in_default
+returns-in_default c = c.loop-i.invariant.1 _ (names_nothing (sym c.in_default.is ∙ c.item_at.ensures))
+
+pub returns-then-ne : goal.returns-then-ne
+returns-then-ne c =
+    c.loop-i.invariant.1 _ (names_wrong (item_at_lem _ _ _ (sym c.in-Some.is ∙ c.item_at.ensures)) (kind_differs c.ne.ensures c.if-ne.true))
 
 pub loop-i-smaller : goal.loop-i-smaller
 loop-i-smaller c =
-    let l = (item_at_lem _ _ _ c.item_at-i.ensures).later _ c.in-At.is in
+    let l = (item_at_lem _ _ _ (sym c.in-Some.is ∙ c.item_at.ensures)).later _ c.in-Some-next.is in
     omega arith
 
 pub loop-i-preserved : goal.loop-i-preserved
 unfolding ascii fmt
 loop-i-preserved c =
-    let it = item_at_lem _ _ _ c.item_at-i.ensures in
-    let y = sym c.is_string.ensures ∙ not-false _ c.if-not-is_string.false-raw in
-    ((it.later _ c.in-At.is).1, λ r w. c.loop-i.invariant.1 r (names_next it y c.text_is-is.ensures _ _ c.bad_with-bad.ensures c.either-listed.ensures c.in-At.is w))
+    let it = item_at_lem _ _ _ (sym c.in-Some.is ∙ c.item_at.ensures) in
+    let y = kind_agrees c.ne.ensures c.if-ne.false in
+    ((it.later _ c.in-Some-next.is).1, λ r w. c.loop-i.invariant.1 r (names_next it y c.text_is-is.ensures _ _ c.bad_with-bad.ensures c.either-listed.ensures c.in-Some-next.is w))
 
-pub returns-in-Bad : goal.returns-in-Bad
+pub returns-in_default-next : goal.returns-in_default-next
 unfolding ascii fmt
-returns-in-Bad c =
-    let it = item_at_lem _ _ _ c.item_at-i.ensures in
-    let y = sym c.is_string.ensures ∙ not-false _ c.if-not-is_string.false-raw in
-    c.loop-i.invariant.1 _ (names_last it y c.text_is-is.ensures _ _ c.bad_with-bad.ensures c.either-listed.ensures c.in-Bad.is)
+returns-in_default-next c =
+    let it = item_at_lem _ _ _ (sym c.in-Some.is ∙ c.item_at.ensures) in
+    let y = kind_agrees c.ne.ensures c.if-ne.false in
+    c.loop-i.invariant.1 _ (names_last it y c.text_is-is.ensures _ _ c.bad_with-bad.ensures c.either-listed.ensures c.in_default-next.is)

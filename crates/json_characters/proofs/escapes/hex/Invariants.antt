@@ -1,7 +1,7 @@
 -- `hex` meets its contract. The loop's invariant: what is right for the digits left is right for all four.
 use Prim.Native.Nat.{◌+◌, ◌≤◌, ◌<◌}
 use lib.ListN.{length}
-use Rattle.json_characters.specs.declared.Scan.{Scan}
+use Rattle.json_characters.specs.Characters.{Scan}
 use Rattle.json_characters.specs.Steps.{ScanAt}
 use Rattle.json_grammar_rules.specs.Reader.{read_hex}
 use Rattle.json_characters.proofs.DigitLaws.{room}

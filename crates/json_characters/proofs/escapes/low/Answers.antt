@@ -16,9 +16,9 @@ returns-then-s-at-ne92 c = low_no_escape _ _ _ (omega (arith, c.if-s-at-lt2.fals
 pub returns-then-s-at-ne117 : goal.returns-then-s-at-ne117
 returns-then-s-at-ne117 c = low_no_u _ _ _ (omega (arith, c.if-s-at-lt2.false)) c.if-s-at-ne92.false c.if-s-at-ne117.true
 
-pub returns-in_default : goal.returns-in_default
-returns-in_default c =
-    low_no_hex _ _ _ (omega (arith, c.if-s-at-lt2.false)) c.if-s-at-ne92.false c.if-s-at-ne117.false (scanned read_hex _ _ _ _ c.hex.ensures c.in_default.is)
+pub returns-in_err-x : goal.returns-in_err-x
+returns-in_err-x c =
+    rw c.from_residual.ensures (low_no_hex _ _ _ (omega (arith, c.if-s-at-lt2.false)) c.if-s-at-ne92.false c.if-s-at-ne117.false (scanned read_hex _ _ _ _ c.hex.ensures c.in_err-x.was))
 
 pub overflow_sub-result : goal.overflow_sub-result
 overflow_sub-result c = (pair_high _ c.requires.1).0
@@ -40,9 +40,9 @@ overflow_add-result-then-between32 c = omega (arith, pair_high _ c.requires.1, p
 pub returns-then-between32 : goal.returns-then-between32
 unfolding is_low pair_code
 returns-then-between32 c =
-    low_is _ _ _ (omega (arith, c.if-s-at-lt2.false)) c.if-s-at-ne92.false c.if-s-at-ne117.false _ _ _ (scanned read_hex _ _ _ _ c.hex.ensures c.in-Code.is) (sym c.between32.ensures ∙ c.if-between32.true) refl
+    low_is _ _ _ (omega (arith, c.if-s-at-lt2.false)) c.if-s-at-ne92.false c.if-s-at-ne117.false _ _ _ (scanned read_hex _ _ _ _ c.hex.ensures c.in_ok-x.was) (sym c.between32.ensures ∙ c.if-between32.true) refl
 
 pub returns : goal.returns
 unfolding is_low
 returns c =
-    low_not _ _ _ (omega (arith, c.if-s-at-lt2.false)) c.if-s-at-ne92.false c.if-s-at-ne117.false _ _ (scanned read_hex _ _ _ _ c.hex.ensures c.in-Code.is) (sym c.between32.ensures ∙ c.if-between32.false)
+    low_not _ _ _ (omega (arith, c.if-s-at-lt2.false)) c.if-s-at-ne92.false c.if-s-at-ne117.false _ _ (scanned read_hex _ _ _ _ c.hex.ensures c.in_ok-x.was) (sym c.between32.ensures ∙ c.if-between32.false)

@@ -1,7 +1,7 @@
 -- `tails` meets its contract. The loop's invariant: what is right for the octets left is right for all; the bits so far leave room for those left.
 use Prim.Native.Nat.{◌≤◌, ◌<◌}
 use lib.ListN.{length}
-use Rattle.json_characters.specs.declared.Scan.{Scan}
+use Rattle.json_characters.specs.Characters.{Scan}
 use Rattle.json_characters.specs.Steps.{ScanAt, read_tails}
 use Rattle.json_characters.proofs.DigitLaws.{room}
 use Rattle.json_characters.proofs.utf8.tails.Given as goal

@@ -8,23 +8,23 @@ use Rattle.json_check.proofs.marks.next_mark.Goals as goal
 pub loop-at-init : goal.loop-at-init
 loop-at-init c = (omega arith, omega arith, λ r h. h)
 
-pub returns-in_default : goal.returns-in_default
-returns-in_default c =
-    c.loop-at.invariant.2 _ (law.broken _ _ c.loop-at-test.true c.if-b-eq34.true (stringed _ _ c.in_default.is c.string_end.ensures))
+pub returns-in_err-e : goal.returns-in_err-e
+returns-in_err-e c =
+    rw c.from_residual.ensures (c.loop-at.invariant.2 _ (law.broken _ _ c.loop-at-test.true c.if-b-eq34.true (stringed _ _ c.in_err-e.was c.string_end.ensures)))
 
 pub returns-then-colon_next : goal.returns-then-colon_next
 returns-then-colon_next c =
     c.loop-at.invariant.2 _
-    (law.named _ _ c.loop-at-test.true _ c.if-b-eq34.true (stringed _ _ c.in-At.is c.string_end.ensures) c.colon_next.ensures c.if-colon_next.true)
+    (law.named _ _ c.loop-at-test.true _ c.if-b-eq34.true (stringed _ _ c.in_ok-e.was c.string_end.ensures) c.colon_next.ensures c.if-colon_next.true)
 
 pub loop-at-smaller-then-b-eq34 : goal.loop-at-smaller-then-b-eq34
 loop-at-smaller-then-b-eq34 c =
-    let k = law.text _ _ c.loop-at-test.true _ c.if-b-eq34.true (stringed _ _ c.in-At.is c.string_end.ensures) c.colon_next.ensures c.if-colon_next.false in
+    let k = law.text _ _ c.loop-at-test.true _ c.if-b-eq34.true (stringed _ _ c.in_ok-e.was c.string_end.ensures) c.colon_next.ensures c.if-colon_next.false in
     omega (arith, k.later, k.high)
 
 pub loop-at-preserved-then-b-eq34 : goal.loop-at-preserved-then-b-eq34
 loop-at-preserved-then-b-eq34 c =
-    let k = law.text _ _ c.loop-at-test.true _ c.if-b-eq34.true (stringed _ _ c.in-At.is c.string_end.ensures) c.colon_next.ensures c.if-colon_next.false in
+    let k = law.text _ _ c.loop-at-test.true _ c.if-b-eq34.true (stringed _ _ c.in_ok-e.was c.string_end.ensures) c.colon_next.ensures c.if-colon_next.false in
     (omega (arith, k.later, c.loop-at.invariant.0), k.high, λ r h. c.loop-at.invariant.2 r (law.past _ _ _ k r h))
 
 pub returns-then-b-eq123 : goal.returns-then-b-eq123

@@ -2,7 +2,7 @@
 use mathlib.Core.Path.{sym, ◌∙◌}
 use Prim.Native.Nat.{◌-◌}
 use native.Mathlib.Omega.{arith}
-use Rattle.json_check.proofs.MarkLaws.{name_told, opens_told, closes_told, nothing_told}
+use Rattle.json_check.proofs.MarkLaws.{name_told, opens_told, closes_told, none_told}
 use Rattle.json_check.proofs.StackLaws as stack
 use Rattle.json_check.proofs.NameLaws as law
 use Rattle.json_check.proofs.names.meets.Goals as goal
@@ -10,8 +10,8 @@ use Rattle.json_check.proofs.names.meets.Goals as goal
 pub pairs-init : goal.pairs-init
 pairs-init c = (omega arith, law.meeting_start _ 64 (omega arith))
 
-pub next_mark-mark-requires : goal.next_mark-mark-requires
-next_mark-mark-requires c = c.pairs.invariant.1.high
+pub next_mark-requires : goal.next_mark-requires
+next_mark-requires c = c.pairs.invariant.1.high
 
 pub loop-i-init : goal.loop-i-init
 loop-i-init c =
@@ -26,25 +26,25 @@ loop-i-preserved c =
     (omega (arith, c.loop-i.invariant.0), omega (arith, c.loop-i-test.true), stack.without_next c.loop-i.invariant.2 c.loop-i.invariant.0 (sym c.same_by_fingerprint.ensures ∙ c.if-same_by_fingerprint.false))
 
 pub pairs-smaller-after-loop-i : goal.pairs-smaller-after-loop-i
-pairs-smaller-after-loop-i c = let h = (name_told _ _ c.next_mark-mark.ensures c.in-Name.is).shows in omega (arith, h.later, h.high)
+pairs-smaller-after-loop-i c = let h = (name_told _ _ c.next_mark.ensures c.in-Some-Name.is c.in-Some-Name.field-0-is).shows in omega (arith, h.later, h.high)
 
 pub pairs-preserved-after-loop-i : goal.pairs-preserved-after-loop-i
 pairs-preserved-after-loop-i c =
-    (c.pairs.invariant.0, law.meeting_name c.pairs.invariant.1 (name_told _ _ c.next_mark-mark.ensures c.in-Name.is) c.if-inner-eq0.true (stack.without_all c.loop-i.invariant c.loop-i-test.false))
+    (c.pairs.invariant.0, law.meeting_name c.pairs.invariant.1 (name_told _ _ c.next_mark.ensures c.in-Some-Name.is c.in-Some-Name.field-0-is) c.if-inner-eq0.true (stack.without_all c.loop-i.invariant c.loop-i-test.false))
 
 pub pairs-smaller-else-inner-eq0 : goal.pairs-smaller-else-inner-eq0
-pairs-smaller-else-inner-eq0 c = let h = (name_told _ _ c.next_mark-mark.ensures c.in-Name.is).shows in omega (arith, h.later, h.high)
+pairs-smaller-else-inner-eq0 c = let h = (name_told _ _ c.next_mark.ensures c.in-Some-Name.is c.in-Some-Name.field-0-is).shows in omega (arith, h.later, h.high)
 
 pub pairs-preserved-else-inner-eq0 : goal.pairs-preserved-else-inner-eq0
 pairs-preserved-else-inner-eq0 c =
-    (c.pairs.invariant.0, law.meeting_inner c.pairs.invariant.1 (name_told _ _ c.next_mark-mark.ensures c.in-Name.is) c.if-inner-eq0.false)
+    (c.pairs.invariant.0, law.meeting_inner c.pairs.invariant.1 (name_told _ _ c.next_mark.ensures c.in-Some-Name.is c.in-Some-Name.field-0-is) c.if-inner-eq0.false)
 
-pub pairs-smaller-in-Opens : goal.pairs-smaller-in-Opens
-pairs-smaller-in-Opens c = let h = opens_told _ _ c.next_mark-mark.ensures c.in-Opens.is in omega (arith, h.later, h.high)
+pub pairs-smaller-in-Some-Opens : goal.pairs-smaller-in-Some-Opens
+pairs-smaller-in-Some-Opens c = let h = opens_told _ _ c.next_mark.ensures c.in-Some-Opens.is c.in-Some-Opens.field-0-is in omega (arith, h.later, h.high)
 
-pub pairs-preserved-in-Opens : goal.pairs-preserved-in-Opens
-pairs-preserved-in-Opens c =
-    (c.pairs.invariant.0, law.meeting_opens c.pairs.invariant.1 (opens_told _ _ c.next_mark-mark.ensures c.in-Opens.is))
+pub pairs-preserved-in-Some-Opens : goal.pairs-preserved-in-Some-Opens
+pairs-preserved-in-Some-Opens c =
+    (c.pairs.invariant.0, law.meeting_opens c.pairs.invariant.1 (opens_told _ _ c.next_mark.ensures c.in-Some-Opens.is c.in-Some-Opens.field-0-is))
 
 pub offset_bounds-names-count : goal.offset_bounds-names-count
 offset_bounds-names-count c = omega (arith, stack.held_low (law.meeting_holds c.pairs.invariant.1 c.requires.1), c.pairs.invariant.0)
@@ -54,30 +54,30 @@ bounds-names-count c =
     omega (arith, stack.held_low (law.meeting_holds c.pairs.invariant.1 c.requires.1), c.pairs.invariant.0, c.if-base-eq0.false)
 
 pub pairs-smaller-then-inner-gt0 : goal.pairs-smaller-then-inner-gt0
-pairs-smaller-then-inner-gt0 c = let h = closes_told _ _ c.next_mark-mark.ensures c.in-Closes.is in omega (arith, h.later, h.high)
+pairs-smaller-then-inner-gt0 c = let h = closes_told _ _ c.next_mark.ensures c.in-Some-Closes.is c.in-Some-Closes.field-0-is in omega (arith, h.later, h.high)
 
 pub pairs-preserved-then-inner-gt0 : goal.pairs-preserved-then-inner-gt0
 pairs-preserved-then-inner-gt0 c =
-    (c.pairs.invariant.0, law.meeting_out c.pairs.invariant.1 (closes_told _ _ c.next_mark-mark.ensures c.in-Closes.is) (λ z. absurd (omega (arith, c.if-inner-gt0.true))))
+    (c.pairs.invariant.0, law.meeting_out c.pairs.invariant.1 (closes_told _ _ c.next_mark.ensures c.in-Some-Closes.is c.in-Some-Closes.field-0-is) (λ z. absurd (omega (arith, c.if-inner-gt0.true))))
 
 pub pairs-smaller-then-base-eq0 : goal.pairs-smaller-then-base-eq0
-pairs-smaller-then-base-eq0 c = let h = closes_told _ _ c.next_mark-mark.ensures c.in-Closes.is in omega (arith, h.later, h.high)
+pairs-smaller-then-base-eq0 c = let h = closes_told _ _ c.next_mark.ensures c.in-Some-Closes.is c.in-Some-Closes.field-0-is in omega (arith, h.later, h.high)
 
 pub pairs-preserved-then-base-eq0 : goal.pairs-preserved-then-base-eq0
 pairs-preserved-then-base-eq0 c =
-    (omega arith, law.meeting_bare c.pairs.invariant.1 (closes_told _ _ c.next_mark-mark.ensures c.in-Closes.is) (omega (arith, c.if-inner-gt0.false)) c.if-base-eq0.true)
+    (omega arith, law.meeting_bare c.pairs.invariant.1 (closes_told _ _ c.next_mark.ensures c.in-Some-Closes.is c.in-Some-Closes.field-0-is) (omega (arith, c.if-inner-gt0.false)) c.if-base-eq0.true)
 
 pub pairs-smaller : goal.pairs-smaller
-pairs-smaller c = let h = closes_told _ _ c.next_mark-mark.ensures c.in-Closes.is in omega (arith, h.later, h.high)
+pairs-smaller c = let h = closes_told _ _ c.next_mark.ensures c.in-Some-Closes.is c.in-Some-Closes.field-0-is in omega (arith, h.later, h.high)
 
 pub pairs-preserved : goal.pairs-preserved
 pairs-preserved c =
-    (omega (arith, stack.held_low (law.meeting_holds c.pairs.invariant.1 c.requires.1), c.pairs.invariant.0), law.meeting_closes c.pairs.invariant.1 (closes_told _ _ c.next_mark-mark.ensures c.in-Closes.is) (omega (arith, c.if-inner-gt0.false)) c.if-base-eq0.false)
+    (omega (arith, stack.held_low (law.meeting_holds c.pairs.invariant.1 c.requires.1), c.pairs.invariant.0), law.meeting_closes c.pairs.invariant.1 (closes_told _ _ c.next_mark.ensures c.in-Some-Closes.is c.in-Some-Closes.field-0-is) (omega (arith, c.if-inner-gt0.false)) c.if-base-eq0.false)
 
-pub returns-in-Nothing : goal.returns-in-Nothing
-returns-in-Nothing c = law.meeting_last c.pairs.invariant.1 (nothing_told _ _ c.next_mark-mark.ensures c.in-Nothing.is)
+pub returns-in-None : goal.returns-in-None
+returns-in-None c = law.meeting_last c.pairs.invariant.1 (none_told _ _ c.next_mark.ensures c.in-None.is)
 
 pub returns : goal.returns
 returns c =
-    law.meeting_found c.pairs.invariant.1 (name_told _ _ c.next_mark-mark.ensures c.in-Name.is) c.if-inner-eq0.true _
+    law.meeting_found c.pairs.invariant.1 (name_told _ _ c.next_mark.ensures c.in-Some-Name.is c.in-Some-Name.field-0-is) c.if-inner-eq0.true _
     c.loop-i.invariant.0 c.loop-i-test.true (sym c.same_by_fingerprint.ensures ∙ c.if-same_by_fingerprint.true)

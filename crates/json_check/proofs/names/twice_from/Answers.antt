@@ -1,23 +1,20 @@
--- `twice_from` meets its contract.
-use mathlib.Core.Path.{ap, ◌∙◌}
-use Rattle.json_check.specs.declared.names.Search.TheVariants.{Past}
+-- `twice_from` meets its contract. The loop's invariant: what is right from the next pass's place on is right from the first.
+use mathlib.Core.Bool.{true, false}
+use Prim.Native.Nat.{◌-◌}
+use native.Mathlib.Omega.{arith}
 use Rattle.json_check.proofs.NameLaws as law
 use Rattle.json_check.proofs.names.twice_from.Goals as goal
 
-pub loop-found-init : goal.loop-found-init
-loop-found-init c = c.pass-found.ensures
-
 pub returns-in-Twice : goal.returns-in-Twice
-returns-in-Twice c = law.twice _ _ c.loop-found.invariant c.in-Twice.is
+returns-in-Twice c = c.loop-next.invariant.1 true (law.twice _ _ c.pass.ensures c.in-Twice.is)
 
-pub pass-found-requires-in-At : goal.pass-found-requires-in-At
-pass-found-requires-in-At c = law.within_text _ _ c.loop-found.invariant (c.in-Past.is ∙ ap Past c.in-At.is)
+pub returns-in-Once : goal.returns-in-Once
+returns-in-Once c = c.loop-next.invariant.1 false (law.once _ _ c.pass.ensures c.in-Once.is)
 
-pub loop-found-smaller : goal.loop-found-smaller
-loop-found-smaller c = (law.on _ _ c.loop-found.invariant (c.in-Past.is ∙ ap Past c.in-At.is) _ c.pass-found-in-At.ensures).1
+pub loop-next-smaller : goal.loop-next-smaller
+loop-next-smaller c = let u = law.unfinished _ _ c.pass.ensures c.in-Unfinished.is in omega (arith, u.0, u.1)
 
-pub loop-found-preserved : goal.loop-found-preserved
-loop-found-preserved c = (law.on _ _ c.loop-found.invariant (c.in-Past.is ∙ ap Past c.in-At.is) _ c.pass-found-in-At.ensures).0
-
-pub returns-in-Bad : goal.returns-in-Bad
-returns-in-Bad c = law.once _ _ c.loop-found.invariant (c.in-Past.is ∙ ap Past c.in-Bad.is)
+pub loop-next-preserved : goal.loop-next-preserved
+loop-next-preserved c =
+    let u = law.unfinished _ _ c.pass.ensures c.in-Unfinished.is in
+    (u.1, λ r h. c.loop-next.invariant.1 r (u.2 r h))

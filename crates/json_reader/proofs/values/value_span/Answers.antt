@@ -11,10 +11,10 @@ returns-then-colon-s c = law.span_none _ (cycle.colon_out _ (skips c.skip_ws-col
 pub returns-then-s-colon-ne58 : goal.returns-then-s-colon-ne58
 returns-then-s-colon-ne58 c = law.span_none _ (cycle.colon_other _ (skips c.skip_ws-colon.ensures) c.if-colon-s.false c.if-s-colon-ne58.true)
 
-pub returns-in-At : goal.returns-in-At
-returns-in-At c =
-    law.span_is _ (skips c.skip_ws-colon.ensures) c.if-colon-s.false c.if-s-colon-ne58.false (skips c.skip_ws-from.ensures) (sym c.in-At.is ∙ c.bare.ensures)
+pub returns : goal.returns
+returns c =
+    law.span_is _ (skips c.skip_ws-colon.ensures) c.if-colon-s.false c.if-s-colon-ne58.false (skips c.skip_ws-from.ensures) (sym c.in_ok-to.was ∙ c.bare.ensures)
 
-pub returns-in-Bad : goal.returns-in-Bad
-returns-in-Bad c =
-    law.span_none _ (cycle.colon_is _ (skips c.skip_ws-colon.ensures) c.if-colon-s.false c.if-s-colon-ne58.false (cycle.value_bad _ (skips c.skip_ws-from.ensures) (sym c.in-Bad.is ∙ c.bare.ensures)))
+pub returns-in_err-to : goal.returns-in_err-to
+returns-in_err-to c =
+    c.from_residual.ensures ∙ law.span_none _ (cycle.colon_is _ (skips c.skip_ws-colon.ensures) c.if-colon-s.false c.if-s-colon-ne58.false (cycle.value_bad _ (skips c.skip_ws-from.ensures) (sym c.in_err-to.was ∙ c.bare.ensures)))

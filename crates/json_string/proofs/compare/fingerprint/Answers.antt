@@ -21,11 +21,11 @@ returns-in_default c =
 
 pub loop-at-smaller : goal.loop-at-smaller
 loop-at-smaller c =
-    omega (arith, c.loop-at-test.true, char_after _ _ _ _ (scanned _ _ _ _ c.char_at.ensures c.in-Code.is))
+    omega (arith, c.loop-at-test.true, char_after _ _ _ _ (scanned _ _ _ _ c.char_at.ensures c.in-Some.is))
 
 pub loop-at-preserved : goal.loop-at-preserved
 loop-at-preserved c =
-    mixed_on _ _ _ _ _ _ (text_step _ _ c.loop-at-test.true c.if-b-eq34.false _ _ (scanned _ _ _ _ c.char_at.ensures c.in-Code.is)) c.mixed-h-else-is_unescaped1.ensures
+    mixed_on _ _ _ _ _ _ (text_step _ _ c.loop-at-test.true c.if-b-eq34.false _ _ (scanned _ _ _ _ c.char_at.ensures c.in-Some.is)) c.mixed-h-else-is_unescaped1.ensures
     ∙ c.loop-at.invariant
 
 pub returns : goal.returns

@@ -25,17 +25,17 @@ returns-in_default-char_at c =
 
 pub loop-i-smaller : goal.loop-i-smaller
 loop-i-smaller c =
-    omega (arith, c.loop-i-test.true, char_after _ _ _ _ (scanned _ _ _ _ c.char_at.ensures c.in-Code.is))
+    omega (arith, c.loop-i-test.true, char_after _ _ _ _ (scanned _ _ _ _ c.char_at.ensures c.in-Some.is))
 
 pub loop-i-preserved : goal.loop-i-preserved
 loop-i-preserved c =
-    let x = scanned _ _ _ _ c.char_at.ensures c.in-Code.is in
-    let y = scanned _ _ _ _ c.char_at-then-j-t.ensures c.in-Code-char_at.is in
+    let x = scanned _ _ _ _ c.char_at.ensures c.in-Some.is in
+    let y = scanned _ _ _ _ c.char_at-then-j-t.ensures c.in-Some-char_at.is in
     same_step _ _ _ _ c.loop-i-test.true c.if-j-t.true c.if-a-eq34.false c.if-b-eq34.false _ _ _ _ x y c.if-x-y.true ∙ c.loop-i.invariant
 
 pub returns-else-x-y : goal.returns-else-x-y
 returns-else-x-y c =
-    same_differ _ _ _ _ c.loop-i-test.true c.if-j-t.true c.if-a-eq34.false c.if-b-eq34.false _ _ _ _ (scanned _ _ _ _ c.char_at.ensures c.in-Code.is) (scanned _ _ _ _ c.char_at-then-j-t.ensures c.in-Code-char_at.is) c.if-x-y.false ∙ c.loop-i.invariant
+    same_differ _ _ _ _ c.loop-i-test.true c.if-j-t.true c.if-a-eq34.false c.if-b-eq34.false _ _ _ _ (scanned _ _ _ _ c.char_at.ensures c.in-Some.is) (scanned _ _ _ _ c.char_at-then-j-t.ensures c.in-Some-char_at.is) c.if-x-y.false ∙ c.loop-i.invariant
 
 pub returns-else-j-t : goal.returns-else-j-t
 returns-else-j-t c = same_none_j _ _ _ _ (text_out _ _ c.if-j-t.false) ∙ c.loop-i.invariant

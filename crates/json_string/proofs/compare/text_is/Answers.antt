@@ -33,20 +33,20 @@ returns-in_default c =
     is_none _ _ _ (text_wrong_lem _ _ c.loop-i-test.true c.if-b-eq34.false (scanned _ _ _ _ c.char_at.ensures c.in_default.is)) ∙ c.loop-i.invariant.1
 
 pub octets_end-requires : goal.octets_end-requires
-octets_end-requires c = (omega arith, char_most _ _ _ _ (scanned _ _ _ _ c.char_at.ensures c.in-Code.is))
+octets_end-requires c = (omega arith, char_most _ _ _ _ (scanned _ _ _ _ c.char_at.ensures c.in-Some.is))
 
 pub returns-in_default-octets_end : goal.returns-in_default-octets_end
 returns-in_default-octets_end c =
-    is_differ _ _ _ _ _ _ (text_step _ _ c.loop-i-test.true c.if-b-eq34.false _ _ (scanned _ _ _ _ c.char_at.ensures c.in-Code.is)) (word_ended _ _ _ _ _ c.octets_end.ensures c.in_default-octets_end.is) ∙ c.loop-i.invariant.1
+    is_differ _ _ _ _ _ _ (text_step _ _ c.loop-i-test.true c.if-b-eq34.false _ _ (scanned _ _ _ _ c.char_at.ensures c.in-Some.is)) (word_ended _ _ _ _ _ c.octets_end.ensures c.in_default-octets_end.is) ∙ c.loop-i.invariant.1
 
 pub loop-i-smaller : goal.loop-i-smaller
 loop-i-smaller c =
-    omega (arith, c.loop-i-test.true, char_after _ _ _ _ (scanned _ _ _ _ c.char_at.ensures c.in-Code.is))
+    omega (arith, c.loop-i-test.true, char_after _ _ _ _ (scanned _ _ _ _ c.char_at.ensures c.in-Some.is))
 
 pub loop-i-preserved : goal.loop-i-preserved
 loop-i-preserved c =
-    let x = scanned _ _ _ _ c.char_at.ensures c.in-Code.is in
-    let o = word_ended _ _ _ _ _ c.octets_end.ensures c.in-At.is in
+    let x = scanned _ _ _ _ c.char_at.ensures c.in-Some.is in
+    let o = word_ended _ _ _ _ _ c.octets_end.ensures c.in-Some-octets_end.is in
     (word_after _ _ _ _ o, is_step _ _ _ _ _ _ (text_step _ _ c.loop-i-test.true c.if-b-eq34.false _ _ x) _ o ∙ c.loop-i.invariant.1)
 
 pub returns : goal.returns

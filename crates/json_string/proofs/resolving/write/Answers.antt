@@ -27,16 +27,16 @@ loop-i-preserved-then-is_unescaped1 c =
     let p = sym c.is_unescaped1.ensures ∙ c.if-is_unescaped1.true in
     writes_one c.loop-i.invariant _ _ (text_plain _ _ c.loop-i-test.true _ p refl) (plain_octets _ p) c.if-out-n.false
 
-pub returns-in_default : goal.returns-in_default
-returns-in_default c =
-    writes_none c.loop-i.invariant (text_wrong_lem _ _ c.loop-i-test.true c.if-b-eq34.false (scanned _ _ _ _ c.char_at.ensures c.in_default.is))
+pub returns-in_err-c : goal.returns-in_err-c
+returns-in_err-c c =
+    rw c.from_residual.ensures (writes_none c.loop-i.invariant (text_wrong_lem _ _ c.loop-i-test.true c.if-b-eq34.false (scanned _ _ _ _ c.char_at.ensures c.in_err-c.was)))
 
 pub octets_of-o-requires : goal.octets_of-o-requires
-octets_of-o-requires c = char_most _ _ _ _ (scanned _ _ _ _ c.char_at.ensures c.in-Code.is)
+octets_of-o-requires c = char_most _ _ _ _ (scanned _ _ _ _ c.char_at.ensures c.in_ok-c.was)
 
 pub returns-then-out-n-2 : goal.returns-then-out-n-2
 returns-then-out-n-2 c =
-    writes_long c.loop-i.invariant _ _ (text_step _ _ c.loop-i-test.true c.if-b-eq34.false _ _ (scanned _ _ _ _ c.char_at.ensures c.in-Code.is)) _ (octets_in_lem c.octets_of-o.ensures).long c.if-out-n-2.true
+    writes_long c.loop-i.invariant _ _ (text_step _ _ c.loop-i-test.true c.if-b-eq34.false _ _ (scanned _ _ _ _ c.char_at.ensures c.in_ok-c.was)) _ (octets_in_lem c.octets_of-o.ensures).long c.if-out-n-2.true
 
 pub slice_bounds-bytes-end : goal.slice_bounds-bytes-end
 slice_bounds-bytes-end c =
@@ -52,12 +52,12 @@ copy_at-requires c =
 
 pub loop-i-smaller : goal.loop-i-smaller
 loop-i-smaller c =
-    omega (arith, c.loop-i-test.true, char_after _ _ _ _ (scanned _ _ _ _ c.char_at.ensures c.in-Code.is))
+    omega (arith, c.loop-i-test.true, char_after _ _ _ _ (scanned _ _ _ _ c.char_at.ensures c.in_ok-c.was))
 
 pub loop-i-preserved : goal.loop-i-preserved
 loop-i-preserved c =
     let o = octets_in_lem c.octets_of-o.ensures in
-    writes_more c.loop-i.invariant _ _ (text_step _ _ c.loop-i-test.true c.if-b-eq34.false _ _ (scanned _ _ _ _ c.char_at.ensures c.in-Code.is)) _ _ _ o.are o.long c.if-out-n-2.false c.copy_at.ensures
+    writes_more c.loop-i.invariant _ _ (text_step _ _ c.loop-i-test.true c.if-b-eq34.false _ _ (scanned _ _ _ _ c.char_at.ensures c.in_ok-c.was)) _ _ _ o.are o.long c.if-out-n-2.false c.copy_at.ensures
 
 pub returns : goal.returns
 returns c = writes_none c.loop-i.invariant (text_out _ _ c.loop-i-test.false)

@@ -14,17 +14,17 @@ loop-at-preserved-then-is_unescaped1 c =
 pub returns-then-b-eq34 : goal.returns-then-b-eq34
 returns-then-b-eq34 c = end_quote _ _ c.loop-at-test.true c.if-b-eq34.true ∙ c.loop-at.invariant
 
-pub returns-in_default : goal.returns-in_default
-returns-in_default c =
-    end_none _ _ (text_wrong_lem _ _ c.loop-at-test.true c.if-b-eq34.false (scanned _ _ _ _ c.char_at.ensures c.in_default.is)) ∙ c.loop-at.invariant
+pub returns-in_err-next : goal.returns-in_err-next
+returns-in_err-next c =
+    c.from_residual.ensures ∙ end_none _ _ (text_wrong_lem _ _ c.loop-at-test.true c.if-b-eq34.false (scanned _ _ _ _ c.char_at.ensures c.in_err-next.was)) ∙ c.loop-at.invariant
 
 pub loop-at-smaller : goal.loop-at-smaller
 loop-at-smaller c =
-    omega (arith, c.loop-at-test.true, char_after _ _ _ _ (scanned _ _ _ _ c.char_at.ensures c.in-Code.is))
+    omega (arith, c.loop-at-test.true, char_after _ _ _ _ (scanned _ _ _ _ c.char_at.ensures c.in_ok-next.was))
 
 pub loop-at-preserved : goal.loop-at-preserved
 loop-at-preserved c =
-    end_on _ _ _ _ (text_step _ _ c.loop-at-test.true c.if-b-eq34.false _ _ (scanned _ _ _ _ c.char_at.ensures c.in-Code.is)) ∙ c.loop-at.invariant
+    end_on _ _ _ _ (text_step _ _ c.loop-at-test.true c.if-b-eq34.false _ _ (scanned _ _ _ _ c.char_at.ensures c.in_ok-next.was)) ∙ c.loop-at.invariant
 
 pub returns : goal.returns
 returns c = end_none _ _ (text_out _ _ c.loop-at-test.false) ∙ c.loop-at.invariant
