@@ -16,28 +16,24 @@ use Rattle.common.specs.Same.{same}
 use Rattle.json_grammar_rules.specs.Value.{LMembers, item, named, lnil, lcons}
 use Rattle.json_grammar_rules.specs.Places.{placed}
 use Rattle.json_string.specs.Ends.{End}
-use Rattle.json_rules.specs.Answers.{size_of}
 use Rattle.json_rules.specs.Rules.{longest, deepest}
 use Rattle.json_rules.specs.Tests.{members_in, grammar_tests}
 use Rattle.json_rules.proofs.AnswerLaws.{grammar_read}
-use Rattle.json_members.specs.declared.places.Value.{Value as Placed}
 use Rattle.json_members.specs.Members.{MembersFrom, TopMembers}
 use Rattle.json_members.specs.Slots.{Slot, item_of, ShowsAs, ShowsAll, Within}
-use Rattle.keytable_rules.specs.Table.{bad_table, keys}
+use Rattle.keytable_rules.specs.Table.{bad_table}
 use Rattle.jose_rules.specs.declared.Facts.{Facts}
-use Rattle.jose_rules.specs.declared.Verdict.{Verdict}
-use Rattle.jose_rules.specs.declared.Part.{Part}
+use Rattle.jose_rules.specs.Verdict.{Verdict}
 use Rattle.jose_rules.specs.declared.Choice.{Choice}
-use Rattle.jose_rules.specs.declared.Decision.TheVariants.{Refused, Chosen}
 use Rattle.jose_rules.specs.Names.{typ, cty}
 use Rattle.jose_rules.specs.Rules.{Terms, terms_of}
 use Rattle.jose_rules.specs.Header.{value_part}
 use Rattle.jose_rules.specs.Facts.{no_facts, choosing_tests, choice_by, verdict_by, verdict}
 use Rattle.jose_rules.specs.HeaderTests.{located, header_facts, raw_text, header_choice}
-use Rattle.jose_rules.specs.Decision.{decision_by, decision_with, decision}
+use Rattle.jose_rules.specs.Decision.{Decision, Refused, Chosen, decision_by, decision_with, decision}
 use Rattle.jose_facts.specs.declared.members.Known.{Known}
 use Rattle.jose_facts.specs.Known.{the_typ, the_cty, name, slot}
-use Rattle.jose.specs.Deciding.{raw_of, decision_of}
+use Rattle.jose.specs.Deciding.{raw_of}
 
 -- THE MEMBERS OF THE TOP OBJECT
 
@@ -54,9 +50,6 @@ at_top {h} {r} c t =
     subst (λ (ms : LMembers). MembersFrom h inside r ms) (sym (ap members_in g.2)) (t.is deepest g.0 g.1 g.2)
 
 -- THE RAW TEXTS
-
-pub raw_made : {s : Slot} {v : Placed} → s ≡ Some v → {n : ℕ} → n ≡ size_of v.place → record { start = v.place.start; length = n } ≡ raw_of s
-raw_made {v = v} e c = ap (λ (n : ℕ). record { start = v.place.start; length = n }) c ∙ sym (ap raw_of e)
 
 raw_item : (h : List ℕ) (d : ℕ) (n : List ℕ) (s : Slot) (ms : LMembers) → ShowsAs h d s (item_of n ms) → raw_of s ≡ raw_text h n ms
 unfolding item_of raw_text placed
@@ -79,16 +72,10 @@ refused : (n : ℕ) (c : Choice) → (n ≡ 0 → ⊥) → Refused n ≡ decisio
 refused zero c z = absurd (z refl)
 refused (suc n) c z = refl
 
--- a verdict, with the raw texts
-module _ {v : Verdict} (m : Known) where
-  pub decided_refused : {n : ℕ} → v ≡ Verdict.Refused n → Refused n ≡ decision_of v m
-  decided_refused e = sym (ap (λ (w : Verdict). decision_of w m) e)
-
-  pub decided_taken : {i : ℕ} {b : Bool} {x : ℕ} → v ≡ Verdict.Takes i b x → {p q : Part} → p ≡ raw_of m.typ → q ≡ raw_of m.cty
-      → Chosen (record { key_index = i; kid_present = b; format = x; typ = p; cty = q }) ≡ decision_of v m
-  decided_taken {i} {b} {x} e y z =
-      ap₂ (λ (p q : Part). Chosen (record { key_index = i; kid_present = b; format = x; typ = p; cty = q })) y z
-      ∙ sym (ap (λ (w : Verdict). decision_of w m) e)
+-- a verdict, with the raw texts of `typ` and `cty`
+abbrev pub decision_of : Verdict → Known → Decision
+decision_of (Verdict.Refused n) m = Refused n
+decision_of (Verdict.Takes i b x) m = Chosen (record { key_index = i; kid_present = b; format = x; typ = raw_of m.typ; cty = raw_of m.cty })
 
 with_texts : (n : ℕ) (f : Facts) (m : Known) → decision_of (verdict_by n f) m ≡ decision_by n (choice_by f (raw_of m.typ) (raw_of m.cty))
 unfolding choice_by
@@ -96,24 +83,21 @@ with_texts zero f m = refl
 with_texts (suc n) f m = refl
 
 module _ (h : List ℕ) (q : Terms) where
-  pub decision_unread : (r : Refusal) {n : ℕ} → number r ≡ first (grammar_tests deepest h) → n ≡ number r → Refused n ≡ decision_with h q
+  pub decision_unread : (r : Refusal) → number r ≡ first (grammar_tests deepest h) → Refused (number r) ≡ decision_with h q
   unfolding decision_with
-  decision_unread r {n} f i =
-      let e : n ≡ first (grammar_tests deepest h) = i ∙ f in
-      let z : n ≡ 0 → ⊥ = λ g. not_done r (sym i ∙ g) in
+  decision_unread r e =
       let later = choosing_tests (header_facts h q.keys) no_facts q.keys in
-      refused n (header_choice h q.keys) z
-      ∙ ap (λ (m : ℕ). decision_by m (header_choice h q.keys)) (e ∙ sym (first_within (grammar_tests deepest h) later (λ g. z (e ∙ g))))
+      refused (number r) (header_choice h q.keys) (not_done r)
+      ∙ ap (λ (m : ℕ). decision_by m (header_choice h q.keys)) (e ∙ sym (first_within (grammar_tests deepest h) later (λ g. not_done r (e ∙ g))))
 
-  module _ (fine : first (grammar_tests deepest h) ≡ 0) {m : Known} (s : ShowsAll name slot h inside m (located h)) {f u : Facts} {v : Verdict} where
-    pub decision_judged : f ≡ header_facts h q.keys → u ≡ no_facts → v ≡ verdict f u q.keys → decision_of v m ≡ decision_with h q
+  module _ (fine : first (grammar_tests deepest h) ≡ 0) {m : Known} (s : ShowsAll name slot h inside m (located h)) {f : Facts} {v : Verdict} where
+    pub decision_judged : f ≡ header_facts h q.keys → v ≡ verdict f no_facts q.keys → decision_of v m ≡ decision_with h q
     unfolding decision_with verdict header_choice
-    decision_judged fe ue ve =
+    decision_judged fe ve =
         let later = choosing_tests (header_facts h q.keys) no_facts q.keys in
         rw (
           ve,
           fe,
-          ue,
           with_texts (first later) (header_facts h q.keys) m,
           first_after (grammar_tests deepest h) later refl fine,
           raw_item h inside typ m.typ (located h) (s the_typ).has,

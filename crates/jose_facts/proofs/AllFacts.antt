@@ -8,11 +8,10 @@ use Rattle.common.specs.Same.{same}
 use Rattle.json_grammar_rules.specs.Value.{LMembers, named, lnil, lcons, plain_item, plain_members}
 use Rattle.json_members.specs.Slots.{item_of, plain_of, ShowsAll}
 use Rattle.keytable_rules.specs.Key.{Key}
-use Rattle.jose_rules.specs.declared.Alg.{Alg}
-use Rattle.jose_rules.specs.declared.Kid.{Kid}
-use Rattle.jose_rules.specs.declared.Text.{Text}
-use Rattle.jose_rules.specs.declared.Crit.{Crit}
-use Rattle.jose_rules.specs.declared.Fmt.{Fmt}
+use Rattle.std.specs.Prelude.{ℤ, ⊤, Option as Perhaps}
+use Rattle.jose_rules.specs.declared.Said.{Said}
+use Rattle.jose_rules.specs.declared.Algorithm.{Algorithm}
+use Rattle.jose_rules.specs.declared.Listed.{Listed}
 use Rattle.jose_rules.specs.Names.{alg, kid, typ, cty, crit, fmt}
 use Rattle.jose_rules.specs.Facts.{lookup, alg_fact, kid_fact, text_fact, crit_fact, fmt_fact, facts_of}
 use Rattle.jose_facts.specs.declared.members.Known.{Known}
@@ -37,7 +36,7 @@ module _ {h : List ℕ} {d : ℕ} {m : Known} (s : SomeShown h d m) (w : Which) 
   pub shown_some : ShownSomewhere h (slot w m)
   shown_some = record { depth = d; at = shown_at }
 
-pub facts_made : {h : List ℕ} {d : ℕ} {m : Known} {ks : List Key} {a : Alg} {k : Kid} {t u : Text} {c : Crit} {f : Fmt}
+pub facts_made : {h : List ℕ} {d : ℕ} {m : Known} {ks : List Key} {a : Said Algorithm} {k : Said (Perhaps ℕ)} {t u : Said ⊤} {c : Said Listed} {f : Said ℤ}
     → FactIs h m.alg alg_fact a → FactIs h m.kid (kid_fact ks) k → TextFactIs m.typ t → TextFactIs m.cty u → CritFactIs h d m.crit c → FactIs h m.fmt fmt_fact f
     → FactsAre h d m ks (record { alg = a; kid = k; typ = t; cty = u; crit = c; fmt = f })
 unfolding facts_of

@@ -1,7 +1,7 @@
 -- What `crit` says, element by element.
 use Rattle.std.specs.Prelude.{Some, None}
 use mathlib.Core.Path.{◌≡◌, refl, sym, ap, ◌∙◌, subst}
-use mathlib.Core.Bool.{Bool, true, false, cond, ◌||◌}
+use mathlib.Core.Bool.{Bool, true, false, cond, not, ◌||◌}
 use mathlib.Core.List.{List, ◌∷◌}
 use mathlib.Core.Option.{Option, none, some}
 use Prim.Native.Nat.{ℕ, ◌-◌, ◌<◌}
@@ -22,42 +22,54 @@ use Rattle.json_members.specs.Slots.{Slot}
 use Rattle.json_members.specs.SlotLaws.{shows_as, shown, kind_no, string_at, array_at}
 use Rattle.json_members.specs.Steps.{first_element, item_at}
 use Rattle.json_members.specs.StepLaws.{no_item, first_element_lem}
-use Rattle.jose_rules.specs.declared.Crit.{Crit}
+use Rattle.jose_rules.specs.declared.Said.{Said}
+use Rattle.jose_rules.specs.declared.Listed.{Listed}
 use Rattle.jose_rules.specs.Names.{fmt}
 use Rattle.jose_rules.specs.Members.{string, strings, strings_in}
 use Rattle.jose_rules.specs.Facts.{pick, names_from, names_by, crit_fact}
-use Rattle.jose_facts.specs.Says.{ShownAt, CritFactIs, names_after, NamesGo}
-use Rattle.jose_facts.proofs.SlotFacts.{asks_string, asks_array, fact_absent, fact_is, fact_wrong}
+use Rattle.jose_facts.specs.Says.{ShownAt, CritFactIs, listed_after, names_after, NamesGo}
+use Rattle.jose_facts.proofs.SlotFacts.{asks_string, asks_array, said_absent, by_value, said_by, said_wrong}
 
 -- ELEMENTS
 
+-- what names say after others, if they are strings
+abbrev after : Listed → Option (List (List ℕ)) → Said Listed
+after l o = pick Said.Wrong Said.Wrong (λ ns. Said.Is (names_from l.fmt l.bad ns)) o
+
+abbrev none_before : Listed
+none_before = record { bad = false; fmt = false }
+
 module _ {h : List ℕ} {p d : ℕ} {i : Item} (it : ItemAt h p d i) where
   -- an element that is no string
-  pub names_wrong : {l b : Bool} → (i.value.kind ≡ Kind.String → ⊥) → NamesGo h p d l b Crit.Wrong
+  pub names_wrong : {l : Listed} → (i.value.kind ≡ Kind.String → ⊥) → NamesGo h p d l Said.Wrong
   unfolding strings_in plain_items plain
-  names_wrong {l} {b} n = record { is = go }
+  names_wrong {l} n = record { is = go }
     where
-      go : (vs : LItems) → ElementsAt h p d vs → Crit.Wrong ≡ names_after l b vs
+      go : (vs : LItems) → ElementsAt h p d vs → Said.Wrong ≡ names_after l vs
       go inil o = no_elements d o
       go (icons (item x y v) vs) o =
           sym
-          (ap (λ (s : Option (List ℕ)). pick Crit.Wrong Crit.Wrong (names_from l b) (bind s (λ t. bind (strings_in (plain_items vs)) (λ ns. some (t ∷ ns)))))
+          (ap (λ (s : Option (List ℕ)). after l (bind s (λ t. bind (strings_in (plain_items vs)) (λ ns. some (t ∷ ns)))))
           (asks_string (plain v) (kind_no (it.is x y v vs o).0 n)))
 
   -- one name more
-  module _ (y : i.value.kind ≡ Kind.String) {t : Bool} (c : t ≡ text_is h i.value.place.start fmt)
-      (l b : Bool) {l' b' : Bool} (bad : b' ≡ cond t (b || l) true) (listed : l' ≡ (t || l)) where
-    step : (s : List ℕ) → t ≡ same s fmt → (o : Option (List (List ℕ)))
-        → pick Crit.Wrong Crit.Wrong (names_from l b) (bind o (λ ns. some (s ∷ ns))) ≡ pick Crit.Wrong Crit.Wrong (names_from l' b') o
+  module _ (y : i.value.kind ≡ Kind.String) {t : Bool} (c : t ≡ text_is h i.value.place.start fmt) (l : Listed) {l' : Listed} (more : l' ≡ listed_after l t) where
+    step : (s : List ℕ) → t ≡ same s fmt → (o : Option (List (List ℕ))) → after l (bind o (λ ns. some (s ∷ ns))) ≡ after l' o
     unfolding names_from
     step s e none = refl
-    step s e (some ns) = rw (← e, bad, listed) (by t)
+    step s e (some ns) = rw (← e, more) (by t l.bad l.fmt)
       where
-        by : (t : Bool) → cond t (names_from true (b || l) ns) (names_from l true ns) ≡ names_from (t || l) (cond t (b || l) true) ns
-        by true = refl
-        by false = refl
+        by : (t b f : Bool) → Said.Is (cond t (names_from true (b || f) ns) (names_from f true ns)) ≡ Said.Is (names_from (f || t) (b || f || not t) ns)
+        by true true true = refl
+        by true true false = refl
+        by true false true = refl
+        by true false false = refl
+        by false true true = refl
+        by false true false = refl
+        by false false true = refl
+        by false false false = refl
 
-    one : (vs : LItems) → ElementsAt h p d vs → (rest : LItems) × ElementsFrom h d i.next rest × (names_after l b vs ≡ names_after l' b' rest)
+    one : (vs : LItems) → ElementsAt h p d vs → (rest : LItems) × ElementsFrom h d i.next rest × (names_after l vs ≡ names_after l' rest)
     unfolding strings_in plain_items plain is_ascii ascii fmt
     one inil o = no_elements d o
     one (icons (item x z v) vs) o =
@@ -65,25 +77,25 @@ module _ {h : List ℕ} {p d : ℕ} {i : Item} (it : ItemAt h p d i) where
         let w = string_at r.0 y in (
           vs,
           r.1,
-          ap (λ (u : LValue). pick Crit.Wrong Crit.Wrong (names_from l b) (bind (string (plain u)) (λ s. bind (strings_in (plain_items vs)) (λ ns. some (s ∷ ns))))) w.1
+          ap (λ (u : LValue). after l (bind (string (plain u)) (λ s. bind (strings_in (plain_items vs)) (λ ns. some (s ∷ ns))))) w.1
               ∙ step w.0 (c ∙ text_word fmt refl h i.value.place.start w.0 w.2) (strings_in (plain_items vs)),
         )
 
-    pub names_next : {q : ℕ} {r : Crit} → i.next ≡ Some q → NamesGo h q d l' b' r → NamesGo h p d l b r
+    pub names_next : {q : ℕ} {r : Said Listed} → i.next ≡ Some q → NamesGo h q d l' r → NamesGo h p d l r
     names_next e w = record { is = λ vs o. let u = one vs o in w.is u.0 (subst (λ (x : End). ElementsFrom h d x u.0) e u.1) ∙ sym u.2 }
 
-    pub names_last : i.next ≡ None → NamesGo h p d l b (Crit.Names b' l')
+    pub names_last : i.next ≡ None → NamesGo h p d l (Said.Is l')
     unfolding strings_in plain_items names_from
     names_last e = record { is = last }
       where
-        last : (vs : LItems) → ElementsAt h p d vs → Crit.Names b' l' ≡ names_after l b vs
+        last : (vs : LItems) → ElementsAt h p d vs → Said.Is l' ≡ names_after l vs
         last vs o =
             let u = one vs o in
             let z : u.0 ≡ inil = subst (λ (x : End). ElementsFrom h d x u.0) e u.1 in
-            sym (u.2 ∙ ap (names_after l' b') z)
+            sym (u.2 ∙ ap (names_after l') z)
 
 -- where nothing is read, no elements stand
-pub names_nothing : {h : List ℕ} {p d : ℕ} {l b : Bool} {r : Crit} → None ≡ item_at h p d → NamesGo h p d l b r
+pub names_nothing : {h : List ℕ} {p d : ℕ} {l : Listed} {r : Said Listed} → None ≡ item_at h p d → NamesGo h p d l r
 names_nothing {h} {p} {d} e = record { is = λ vs o. no_item h p d e vs o }
 
 -- THE SLOT
@@ -92,49 +104,46 @@ pub first_as : {h : List ℕ} {p : ℕ} {r s : End} → r ≡ first_element h p 
 first_as {h} {p} f e = first_element_lem h p (sym e ∙ f)
 
 -- there is a name where elements stand
-some_names : (h : List ℕ) (p d : ℕ) (vs : LItems) → ElementsAt h p d vs → names_after false false vs ≡ pick Crit.Absent Crit.Wrong names_by (strings_in (plain_items vs))
+some_names : (h : List ℕ) (p d : ℕ) (vs : LItems) → ElementsAt h p d vs → names_after none_before vs ≡ by_value names_by strings (strings_in (plain_items vs))
 unfolding strings_in plain_items
 some_names h p d inil o = no_elements d o
 some_names h p d (icons v vs) o = go (string (plain_item v)) (strings_in (plain_items vs))
   where
     go : (a : Option (List ℕ)) (b : Option (List (List ℕ)))
-        → pick Crit.Wrong Crit.Wrong (names_from false false) (bind a (λ t. bind b (λ ns. some (t ∷ ns))))
-        ≡ pick Crit.Absent Crit.Wrong names_by (bind a (λ t. bind b (λ ns. some (t ∷ ns))))
+        → after none_before (bind a (λ t. bind b (λ ns. some (t ∷ ns)))) ≡ by_value names_by strings (bind a (λ t. bind b (λ ns. some (t ∷ ns))))
     go none b = refl
     go (some t) none = refl
     go (some t) (some ns) = refl
 
 module _ {h : List ℕ} {d : ℕ} {s : Slot} where
-  pub crit_absent : s ≡ None → CritFactIs h d s Crit.Absent
+  pub crit_absent : s ≡ None → CritFactIs h d s Said.Absent
   unfolding crit_fact
-  crit_absent e = record { is = λ o w. fact_absent Crit.Absent Crit.Wrong names_by strings o (shows_as e w) }
+  crit_absent e = record { is = λ o w. said_absent names_by strings o (shows_as e w) }
 
   module _ {x : Placed} (e : s ≡ Some x) where
-    pub crit_wrong_lem : (x.kind ≡ Kind.Array → ⊥) → CritFactIs h d s Crit.Wrong
+    pub crit_wrong : (x.kind ≡ Kind.Array → ⊥) → CritFactIs h d s Said.Wrong
     unfolding crit_fact
-    crit_wrong_lem n = record { is = λ o w. fact_wrong Crit.Absent Crit.Wrong names_by strings o (shows_as e w) asks_array n }
+    crit_wrong n = record { is = λ o w. said_wrong names_by strings o (shows_as e w) asks_array n }
 
     module _ (y : x.kind ≡ Kind.Array) where
       pub crit_within : ShownAt h d s → x.place.start < length h
       crit_within w = (array_at (shown w.item (shows_as e w.shows)).stands y).2
 
-      pub crit_some : {p : ℕ} {r : Crit} → FirstElement h x.place.start (Some p) → NamesGo h p (d - 1) false false r → CritFactIs h d s r
+      pub crit_some : {p : ℕ} {r : Said Listed} → FirstElement h x.place.start (Some p) → NamesGo h p (d - 1) none_before r → CritFactIs h d s r
       unfolding crit_fact plain
       crit_some {p} f g = record {
         is = λ o w.
             let v = shows_as e w in
             let a = array_at (shown o v).stands y in
             let at = f.is d a.0 a.3 in
-            g.is a.0 at ∙ some_names h p (d - 1) a.0 at
-            ∙ sym (fact_is Crit.Absent Crit.Wrong names_by strings o v ∙ ap (λ (u : LValue). pick Crit.Absent Crit.Wrong names_by (strings (plain u))) a.1);
+            g.is a.0 at ∙ some_names h p (d - 1) a.0 at ∙ said_by names_by strings o v (ap (λ (u : LValue). strings (plain u)) a.1);
       }
 
-      pub crit_empty : FirstElement h x.place.start None → CritFactIs h d s (Crit.Names true false)
+      pub crit_empty : FirstElement h x.place.start None → CritFactIs h d s (Said.Is (record { bad = true; fmt = false }))
       unfolding crit_fact strings_in plain_items plain
       crit_empty f = record {
         is = λ o w.
             let v = shows_as e w in
             let a = array_at (shown o v).stands y in
-            sym (fact_is Crit.Absent Crit.Wrong names_by strings o v ∙ ap (λ (u : LValue). pick Crit.Absent Crit.Wrong names_by (strings (plain u))) a.1
-            ∙ ap (λ (vs : LItems). pick Crit.Absent Crit.Wrong names_by (strings_in (plain_items vs))) (f.is d a.0 a.3));
+            said_by names_by strings o v (ap (λ (u : LValue). strings (plain u)) a.1 ∙ ap (λ (vs : LItems). strings_in (plain_items vs)) (f.is d a.0 a.3));
       }

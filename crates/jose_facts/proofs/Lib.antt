@@ -4,3 +4,4 @@ pub mod KeyNames
 pub mod SaysLaws
 pub mod CriticalNames
 pub mod AllFacts
+pub mod WalkFrom

@@ -1,4 +1,4 @@
--- A fact of the member that a slot shows: absent, wrong, or what the value says.
+-- What is said of the member that a slot shows: that it is absent, wrong, or what the value says.
 use Rattle.std.specs.Prelude.{Some, None}
 use mathlib.Core.Path.{◌≡◌, refl, sym, ap, ◌∙◌}
 use mathlib.Core.Bool.{Bool, true, false, not}
@@ -15,7 +15,8 @@ use Rattle.json_members.specs.declared.places.Value.{Value as Placed}
 use Rattle.json_members.specs.Slots.{plain_of, Shows}
 use Rattle.json_members.specs.SlotLaws.{shown, not_shown, kind_no}
 use Rattle.jose_rules.specs.Members.{Meaning, string, strings, integer}
-use Rattle.jose_rules.specs.Facts.{pick, fact}
+use Rattle.jose_rules.specs.declared.Said.{Said}
+use Rattle.jose_rules.specs.Facts.{pick, said}
 
 -- A KIND COMPARED
 
@@ -66,13 +67,17 @@ asks_array null_v n = refl
 asks_array (array_v vs) n = absurd (n refl)
 asks_array (object_v ms) n = refl
 
-module _ {A F : Type 0} (n w : F) (f : A → F) (says : Meaning A) where
-  pub fact_absent : {h : List ℕ} {d : ℕ} (o : Option LItem) → Shows h d None o → n ≡ fact n w f says (plain_of o)
-  fact_absent o s = sym (ap (fact n w f says) (not_shown o s))
+module _ {A B : Type 0} (f : A → B) (says : Meaning A) where
+  pub said_absent : {h : List ℕ} {d : ℕ} (o : Option LItem) → Shows h d None o → Said.Absent ≡ said f says (plain_of o)
+  said_absent o s = sym (ap (said f says) (not_shown o s))
+
+  -- by what the value says
+  abbrev pub by_value : Option A → Said B
+  by_value a = pick Said.Absent Said.Wrong (λ a. Said.Is (f a)) a
 
   module _ {h : List ℕ} {d : ℕ} {x : Placed} (o : Option LItem) (s : Shows h d (Some x) o) where
-    pub fact_is : fact n w f says (plain_of o) ≡ pick n w f (says (plain (shown o s).value))
-    fact_is = ap (fact n w f says) (shown o s).is
+    pub said_by : {a : Option A} → says (plain (shown o s).value) ≡ a → by_value a ≡ said f says (plain_of o)
+    said_by e = sym (ap (said f says) (shown o s).is ∙ ap by_value e)
 
-    pub fact_wrong : {c : Kind} → AsksFor c says → (x.kind ≡ c → ⊥) → w ≡ fact n w f says (plain_of o)
-    fact_wrong asks e = sym (fact_is ∙ ap (pick n w f) (asks (plain (shown o s).value) (kind_no (shown o s).stands e)))
+    pub said_wrong : {c : Kind} → AsksFor c says → (x.kind ≡ c → ⊥) → Said.Wrong ≡ said f says (plain_of o)
+    said_wrong asks e = said_by (asks (plain (shown o s).value) (kind_no (shown o s).stands e))

@@ -7,8 +7,6 @@ use Rattle.std.proofs.Math.Option.{Option, none, some}
 use Rattle.std.proofs.Math.ListN.{length}
 use borrow.Author.Tests.{ltb-false}
 use Rattle.common.specs.First.{first}
-use Rattle.answers.specs.declared.Refusal.{Refusal}
-use Rattle.answers.specs.Numbers.{number}
 use Rattle.common.proofs.FirstLaws.{all_pass, passed, pass_left, first_passed}
 use Rattle.common.specs.Options.{absent, or_else}
 use Rattle.json_grammar_rules.specs.Value.{Value, Members}
@@ -26,25 +24,6 @@ use Rattle.jose_rules.specs.Rules.{Terms, terms_of}
 use Rattle.jose_rules.specs.Facts.{lookup, pick, kid_fact, facts_of, chosen_key, choice_by}
 use Rattle.jose_rules.specs.HeaderTests.{header_facts, jose_tests, header_choice}
 use Rattle.jose_rules.specs.Decision.{Refused, Chosen, decision_by, opening_tests, deciding_tests, decision_with, decision}
-
--- NO REFUSAL has the number of what is done
-pub not_done : (r : Refusal) → number r ≡ 0 → ⊥
-not_done Refusal.TokenTooLong e = omega arith
-not_done Refusal.BadTable e = omega arith
-not_done Refusal.NotTwoPeriods e = omega arith
-not_done Refusal.NotBase64url e = omega arith
-not_done Refusal.HeaderTooLong e = omega arith
-not_done Refusal.BufferTooShort e = omega arith
-not_done Refusal.NotDerived e = omega arith
-not_done Refusal.NameTwice e = omega arith
-not_done Refusal.WrongKind e = omega arith
-not_done Refusal.Critical e = omega arith
-not_done Refusal.WrongAlg e = omega arith
-not_done Refusal.NoKey e = omega arith
-not_done Refusal.AlgNotAllowed e = omega arith
-not_done Refusal.FormatNotAllowed e = omega arith
-not_done Refusal.SignatureDiffers e = omega arith
-not_done Refusal.NoSuchMember e = omega arith
 
 -- A NUMBER AND A CHOICE, apart again
 

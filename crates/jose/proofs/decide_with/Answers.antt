@@ -1,29 +1,28 @@
 -- `decide_with`: the header is read, and its facts are judged.
-use mathlib.Core.Path.{◌∙◌}
-use native.Mathlib.Omega.{arith}
-use Rattle.answers.proofs.NumberLaws.{done, refused}
-use Rattle.json_members.specs.StepLaws.{top_members_lem}
-use Rattle.jose_facts.specs.KnownLaws.{all_shown, some_shown, facts_from}
+use Rattle.std.proofs.Common.{sym, arith}
+use Rattle.std.proofs.lemmas.Result.{err_from_is_err_and}
 use Rattle.jose_judging.specs.JudgingLaws.{key_within}
-use Rattle.jose.proofs.HeaderLaws.{top_within, at_top, decision_unread, decision_judged}
+use Rattle.jose.proofs.HeaderLaws.{decision_unread, decision_judged}
 use Rattle.jose.proofs.decide_with.Goals as goal
 
-pub returns-in-Err : goal.returns-in-Err
-returns-in-Err c = decision_unread _ _ _ (refused c.check_text.ensures c.in-Err.is) c.into.ensures
-
-pub known_from-known-requires : goal.known_from-known-requires
-known_from-known-requires c = top_within (top_members_lem _ c.top_members-from.ensures)
+pub returns-in_err-known : goal.returns-in_err-known
+returns-in_err-known c =
+    let p = err_from_is_err_and c.from_residual.result c.from_residual.ensures.1 in
+    rw (p.1, p.2) (decision_unread _ _ _ c.in_err-known.ensures.refused)
 
 pub facts_of-facts-requires : goal.facts_of-facts-requires
-facts_of-facts-requires c = (c.requires, omega arith, some_shown _ (at_top (done c.check_text.ensures c.in_default.is) (top_members_lem _ c.top_members-from.ensures)) c.known_from-known.ensures)
+facts_of-facts-requires c = (omega arith, record { members = _; shows = c.in_ok-known.ensures.shown })
 
-pub judge-verdict-requires : goal.judge-verdict-requires
-judge-verdict-requires c = (c.requires, key_within _ _ (facts_from _ (at_top (done c.check_text.ensures c.in_default.is) (top_members_lem _ c.top_members-from.ensures)) c.known_from-known.ensures c.facts_of-facts.ensures))
+pub judge-requires : goal.judge-requires
+judge-requires c = key_within _ _ (c.facts_of-facts.ensures.is _ c.in_ok-known.ensures.shown)
+
+pub returns-in_err-taken : goal.returns-in_err-taken
+returns-in_err-taken c =
+    let p = err_from_is_err_and c.from_residual-in_err-taken.result c.from_residual-in_err-taken.ensures.1 in
+    let facts = c.facts_of-facts.ensures.is _ c.in_ok-known.ensures.shown in
+    rw (p.1, p.2) (decision_judged _ _ (sym c.in_ok-known.ensures.refused) c.in_ok-known.ensures.shown facts c.in_err-taken.ensures)
 
 pub returns : goal.returns
 returns c =
-    let fine = done c.check_text.ensures c.in_default.is in
-    let m = at_top fine (top_members_lem _ c.top_members-from.ensures) in
-    c.with_texts.ensures
-    ∙ decision_judged _ _ fine (all_shown _ m c.known_from-known.ensures)
-    (facts_from _ m c.known_from-known.ensures c.facts_of-facts.ensures) c.no_facts.ensures c.judge-verdict.ensures
+    let facts = c.facts_of-facts.ensures.is _ c.in_ok-known.ensures.shown in
+    rw (c.raw.ensures, c.raw-2.ensures) (decision_judged _ _ (sym c.in_ok-known.ensures.refused) c.in_ok-known.ensures.shown facts c.in_ok-taken.ensures)

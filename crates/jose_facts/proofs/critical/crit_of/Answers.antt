@@ -1,14 +1,14 @@
 -- `crit_of`, by the kind of the slot and the elements.
 use Rattle.json_members.specs.StepLaws.{first_element_lem}
 use Rattle.jose_facts.proofs.SlotFacts.{kind_differs, kind_agrees}
-use Rattle.jose_facts.proofs.CriticalNames.{first_as, crit_absent, crit_within, crit_some, crit_empty, crit_wrong_lem}
+use Rattle.jose_facts.proofs.CriticalNames.{first_as, crit_absent, crit_within, crit_some, crit_empty, crit_wrong}
 use Rattle.jose_facts.proofs.critical.crit_of.Goals as goal
 
 pub returns-in_default : goal.returns-in_default
 returns-in_default c = crit_absent c.in_default.is
 
 pub returns-then-ne : goal.returns-then-ne
-returns-then-ne c = crit_wrong_lem c.in-Some.is (kind_differs c.ne.ensures c.if-ne.true)
+returns-then-ne c = crit_wrong c.in-Some.is (kind_differs c.ne.ensures c.if-ne.true)
 
 pub first_element-requires : goal.first_element-requires
 first_element-requires c = crit_within c.in-Some.is (kind_agrees c.ne.ensures c.if-ne.false) c.requires.1

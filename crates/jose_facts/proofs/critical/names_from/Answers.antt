@@ -1,6 +1,5 @@
 -- `names_from`. The loop's invariant: what is right for the elements from p on is right for all of them.
 use mathlib.Core.Path.{sym, ◌∙◌}
-use Prim.Native.Nat.{◌-◌}
 use native.Mathlib.Omega.{arith}
 use Rattle.common.specs.Ascii.{ascii}
 use Rattle.json_members.specs.StepLaws.{item_at_lem}
@@ -10,27 +9,27 @@ use Rattle.jose_facts.proofs.CriticalNames.{names_next, names_last, names_wrong,
 use Rattle.jose_facts.proofs.critical.names_from.Goals as goal
 
 pub returns-in_default : goal.returns-in_default
-returns-in_default c = c.loop-i.invariant.1 _ (names_nothing (sym c.in_default.is ∙ c.item_at.ensures))
+returns-in_default c = c.loop-item.invariant.1 _ (names_nothing (sym c.in_default.is ∙ c.item_at.ensures))
 
 pub returns-then-ne : goal.returns-then-ne
 returns-then-ne c =
-    c.loop-i.invariant.1 _ (names_wrong (item_at_lem _ _ _ (sym c.in-Some.is ∙ c.item_at.ensures)) (kind_differs c.ne.ensures c.if-ne.true))
+    c.loop-item.invariant.1 _ (names_wrong (item_at_lem _ _ _ (sym c.in-Some.is ∙ c.item_at.ensures)) (kind_differs c.ne.ensures c.if-ne.true))
 
-pub loop-i-smaller : goal.loop-i-smaller
-loop-i-smaller c =
+pub loop-item-smaller : goal.loop-item-smaller
+loop-item-smaller c =
     let l = (item_at_lem _ _ _ (sym c.in-Some.is ∙ c.item_at.ensures)).later _ c.in-Some-next.is in
     omega arith
 
-pub loop-i-preserved : goal.loop-i-preserved
+pub loop-item-preserved : goal.loop-item-preserved
 unfolding ascii fmt
-loop-i-preserved c =
+loop-item-preserved c =
     let it = item_at_lem _ _ _ (sym c.in-Some.is ∙ c.item_at.ensures) in
     let y = kind_agrees c.ne.ensures c.if-ne.false in
-    ((it.later _ c.in-Some-next.is).1, λ r w. c.loop-i.invariant.1 r (names_next it y c.text_is-is.ensures _ _ c.bad_with-bad.ensures c.either-listed.ensures c.in-Some-next.is w))
+    ((it.later _ c.in-Some-next.is).1, λ r w. c.loop-item.invariant.1 r (names_next it y c.is_word.ensures _ c.after-listed.ensures c.in-Some-next.is w))
 
 pub returns-in_default-next : goal.returns-in_default-next
 unfolding ascii fmt
 returns-in_default-next c =
     let it = item_at_lem _ _ _ (sym c.in-Some.is ∙ c.item_at.ensures) in
     let y = kind_agrees c.ne.ensures c.if-ne.false in
-    c.loop-i.invariant.1 _ (names_last it y c.text_is-is.ensures _ _ c.bad_with-bad.ensures c.either-listed.ensures c.in_default-next.is)
+    c.loop-item.invariant.1 _ (names_last it y c.is_word.ensures _ c.after-listed.ensures c.in_default-next.is)

@@ -1,22 +1,26 @@
 -- `alg_of`, by the kind of the slot.
 use Rattle.common.specs.Ascii.{ascii}
 use Rattle.jose_rules.specs.Names.{HS256}
-use Rattle.jose_facts.proofs.SlotFacts.{kind_same, kind_other}
-use Rattle.jose_facts.proofs.SaysLaws.{alg_absent, alg_said_yes, alg_said_no, alg_wrong}
+use Rattle.jose_rules.specs.Members.{string}
+use Rattle.jose_rules.specs.Facts.{alg_by, alg_fact}
+use Rattle.jose_facts.proofs.SlotFacts.{asks_string, kind_differs, kind_agrees}
+use Rattle.jose_facts.proofs.SaysLaws.{absent_is, wrong_is, alg_said_yes, alg_said_no}
 use Rattle.jose_facts.proofs.says.alg_of.Goals as goal
 
 pub returns-in_default : goal.returns-in_default
-returns-in_default c = alg_absent c.in_default.is
+unfolding alg_fact
+returns-in_default c = absent_is alg_by string c.in_default.is
 
-pub returns-then-text_is : goal.returns-then-text_is
+pub returns-then-ne : goal.returns-then-ne
+unfolding alg_fact
+returns-then-ne c = wrong_is alg_by string c.in-Some.is asks_string (kind_differs c.ne.ensures c.if-ne.true)
+
+pub returns-then-is_word : goal.returns-then-is_word
 unfolding ascii HS256
-returns-then-text_is c =
-    alg_said_yes c.in-Some.is (kind_same c.eq.ensures c.if-eq.true) c.text_is.ensures c.if-text_is.true
+returns-then-is_word c =
+    alg_said_yes c.in-Some.is (kind_agrees c.ne.ensures c.if-ne.false) c.is_word.ensures c.if-is_word.true
 
-pub returns-then-eq : goal.returns-then-eq
+pub returns-else-is_word : goal.returns-else-is_word
 unfolding ascii HS256
-returns-then-eq c =
-    alg_said_no c.in-Some.is (kind_same c.eq.ensures c.if-eq.true) c.text_is.ensures c.if-text_is.false
-
-pub returns : goal.returns
-returns c = alg_wrong c.in-Some.is (kind_other c.eq.ensures c.if-eq.false)
+returns-else-is_word c =
+    alg_said_no c.in-Some.is (kind_agrees c.ne.ensures c.if-ne.false) c.is_word.ensures c.if-is_word.false

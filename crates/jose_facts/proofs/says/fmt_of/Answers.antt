@@ -1,47 +1,38 @@
 -- `fmt_of`, by the kind of the slot.
-use mathlib.Core.Path.{◌≡◌, refl, sym, ◌∙◌}
-use mathlib.Core.List.{List}
-use Prim.Native.Nat.{ℕ, ◌+◌, ◌-◌}
-use native.Mathlib.Omega.{arith}
-use lib.ListN.{take, drop}
-use mir.Syntax.{w64}
-use mir.Facts.{to_z-of_z}
-use Rattle.json_rules.specs.declared.Place.{Place}
-use Rattle.decimal_rules.specs.declared.Integer.{Integer}
-use Rattle.json_members.specs.Members.{part}
-use Rattle.json_rules.specs.Answers.{size_of}
+use Rattle.std.proofs.Common.{◌≡◌, List, ℕ, ◌+◌, ◌-◌, ℤ, Option, take, drop, ◌∙◌, rules, arith, w64, to_z, of_z}
 use Rattle.decimal_rules.specs.Integer.{integer_of}
-use Rattle.jose_facts.proofs.SlotFacts.{kind_same, kind_other}
-use Rattle.jose_facts.proofs.SaysLaws.{fmt_absent, fmt_said_number, fmt_said_none, fmt_wrong_lem, number_there}
+use Rattle.json_rules.specs.declared.Place.{Place}
+use Rattle.json_rules.specs.Answers.{size_of}
+use Rattle.json_members.specs.Members.{part}
+use Rattle.jose_rules.specs.Members.{integer}
+use Rattle.jose_rules.specs.Facts.{fmt_fact}
+use Rattle.jose_facts.proofs.SlotFacts.{asks_number, kind_differs, kind_agrees}
+use Rattle.jose_facts.proofs.SaysLaws.{absent_is, wrong_is, fmt_said_number, fmt_said_none, number_there}
 use Rattle.jose_facts.proofs.says.fmt_of.Goals as goal
 
--- what is parsed of s at `from` is the number's characters
-parsed : (s : List ℕ) (from size : ℕ) (x : Place) (r : Integer) → x.start ≡ from → size ≡ size_of x
-    → r ≡ integer_of (take ((from + size) - from) (drop from s)) → r ≡ integer_of (part s x)
-parsed s from size x r a e p =
-    let n : (from + size) - from ≡ size_of x = omega (arith, e) in
-    p ∙ rw (n, ← a)
+-- what is parsed of s are the number's characters
+parsed : (s : List ℕ) (x : Place) {size : ℕ} {r : Option ℤ} → size ≡ size_of x
+    → r ≡ integer_of (take ((x.start + size) - x.start) (drop x.start s)) → r ≡ integer_of (part s x)
+parsed s x {size} e p = let n : (x.start + size) - x.start ≡ size_of x = omega (arith, e) in p ∙ rw n
 
 pub returns-in_default : goal.returns-in_default
-returns-in_default c = fmt_absent c.in_default.is
+unfolding fmt_fact
+returns-in_default c = absent_is (λ z. z) integer c.in_default.is
+
+pub returns-then-ne : goal.returns-then-ne
+unfolding fmt_fact
+returns-then-ne c = wrong_is (λ z. z) integer c.in-Some.is asks_number (kind_differs c.ne.ensures c.if-ne.true)
 
 pub slice_bounds-parse-end : goal.slice_bounds-parse-end
 slice_bounds-parse-end c =
-    let n = number_there c.in-Some.is c.requires (kind_same c.eq.ensures c.if-eq.true) in
+    let n = number_there c.in-Some.is c.requires (kind_agrees c.ne.ensures c.if-ne.false) in
     omega (arith, n.0, n.1, c.size.ensures)
 
-pub returns-in-Is : goal.returns-in-Is
-returns-in-Is c =
-    fmt_said_number
-    c.in-Some.is
-    (kind_same c.eq.ensures c.if-eq.true)
-    (parsed _ _ _ c.in-Some.value.place _ refl c.size.ensures c.parse.ensures)
-    c.in-Is.is
-    (to_z-of_z {w = w64} (record { sfits = c.in-Is.known_told-in-Is-1-own.given.0.1 }))
+pub returns-in-Some-parse : goal.returns-in-Some-parse
+returns-in-Some-parse c =
+    let z : to_z w64 (of_z w64 c.in-Some-parse.number) ≡ c.in-Some-parse.number = search rules in
+    rw z (fmt_said_number c.in-Some.is (kind_agrees c.ne.ensures c.if-ne.false) (parsed _ _ c.size.ensures c.parse.ensures) c.in-Some-parse.is)
 
-pub returns-in-No : goal.returns-in-No
-returns-in-No c =
-    fmt_said_none c.in-Some.is (kind_same c.eq.ensures c.if-eq.true) (parsed _ _ _ c.in-Some.value.place _ refl c.size.ensures c.parse.ensures) c.in-No.is
-
-pub returns : goal.returns
-returns c = fmt_wrong_lem c.in-Some.is (kind_other c.eq.ensures c.if-eq.false)
+pub returns-in-None : goal.returns-in-None
+returns-in-None c =
+    fmt_said_none c.in-Some.is (kind_agrees c.ne.ensures c.if-ne.false) (parsed _ _ c.size.ensures c.parse.ensures) c.in-None.is

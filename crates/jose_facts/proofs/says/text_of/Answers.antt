@@ -1,13 +1,17 @@
 -- `text_of`, by the kind of the slot.
-use Rattle.jose_facts.proofs.SlotFacts.{kind_same, kind_other}
-use Rattle.jose_facts.proofs.SaysLaws.{text_absent, text_there, text_wrong_lem}
+use Rattle.jose_rules.specs.Members.{string}
+use Rattle.jose_rules.specs.Facts.{text_fact}
+use Rattle.jose_facts.proofs.SlotFacts.{asks_string, kind_differs, kind_agrees}
+use Rattle.jose_facts.proofs.SaysLaws.{absent_is, wrong_is, text_said}
 use Rattle.jose_facts.proofs.says.text_of.Goals as goal
 
 pub returns-in_default : goal.returns-in_default
-returns-in_default c = text_absent c.in_default.is
+unfolding text_fact
+returns-in_default c = record { is = λ h. (absent_is (λ _. tt {0}) string c.in_default.is).is }
 
-pub returns-then-eq : goal.returns-then-eq
-returns-then-eq c = text_there c.in-Some.is (kind_same c.eq.ensures c.if-eq.true)
+pub returns-then-ne : goal.returns-then-ne
+unfolding text_fact
+returns-then-ne c = record { is = λ h. (wrong_is (λ _. tt {0}) string c.in-Some.is asks_string (kind_differs c.ne.ensures c.if-ne.true)).is }
 
 pub returns : goal.returns
-returns c = text_wrong_lem c.in-Some.is (kind_other c.eq.ensures c.if-eq.false)
+returns c = text_said c.in-Some.is (kind_agrees c.ne.ensures c.if-ne.false)

@@ -1,7 +1,7 @@
 -- `judge`: 9 to 11, then 12 to 14.
 use Rattle.std.proofs.Common.{sym}
 use Rattle.std.proofs.lemmas.Result.{err_from_is_err_and}
-use Rattle.jose_rules.proofs.DecisionLaws.{not_done}
+use Rattle.answers.proofs.NumberLaws.{not_done}
 use Rattle.jose_judging.proofs.KnownRules.{verdict_known, verdict_key, format_fine}
 use Rattle.jose_judging.proofs.judging.judge.Goals as goal
 

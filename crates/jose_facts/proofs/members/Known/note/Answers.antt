@@ -1,4 +1,4 @@
--- `noted`, slot by slot.
+-- `note`, slot by slot.
 use mathlib.Core.Path.{◌≡◌, refl}
 use mathlib.Core.Bool.{true}
 use mathlib.Core.List.{List}
@@ -11,7 +11,7 @@ use Rattle.json_members.specs.WalkLaws as walk
 use Rattle.jose_rules.specs.Names.{alg, kid, typ, cty, crit, fmt}
 use Rattle.jose_facts.specs.declared.members.Known.{Known}
 use Rattle.jose_facts.specs.Known.{Which, the_alg, the_kid, the_typ, the_cty, the_crit, the_fmt, name, slot}
-use Rattle.jose_facts.proofs.members.noted.Goals as goal
+use Rattle.jose_facts.proofs.members.Known.note.Goals as goal
 
 words : (w : Which) → is_ascii (name w) ≡ true
 unfolding is_ascii ascii alg kid typ cty crit fmt
@@ -39,4 +39,4 @@ module _ {h : List ℕ} {p : ℕ} {m : Entry} {old new : Known} where
 pub returns : goal.returns
 unfolding ascii alg kid typ cty crit fmt
 returns c =
-    all c.taken.ensures c.taken-2.ensures c.taken-3.ensures c.taken-4.ensures c.taken-5.ensures c.taken-6.ensures
+    all c.noted.ensures c.noted-2.ensures c.noted-3.ensures c.noted-4.ensures c.noted-5.ensures c.noted-6.ensures
