@@ -1,103 +1,60 @@
 // The rules of verifying, phase by phase: 1 to 3, 4 to 6, 7 to 14, 15. An accepted token's header and payload are left at the fronts of
 // the buffers; the caller clears them past the record's lengths.
-ghost use Rattle.std.specs.Prelude.{◌≡◌, false, ◌<◌, length};
+ghost use Rattle.std.specs.Prelude.{◌≡◌, ◌<◌, length};
+ghost use Rattle.answers.specs.Numbers.{answer};
 ghost use Rattle.common.specs.First.{first};
-ghost use Rattle.keytable_rules.specs.Table.{bad_table, keys};
+ghost use Rattle.keytable_rules.specs.Table.{keys};
 ghost use Rattle.jose_rules.specs.Decision.{decision_with};
 ghost use Rattle.jose_rules.specs.Rules.{terms_of};
 ghost use Rattle.jws_rules.specs.Calls.{verify_call};
+ghost use Rattle.jws_rules.specs.Results.{verify_result};
 ghost use Rattle.jws_rules.specs.Tests.{from_segments, verify_tests};
 ghost use Rattle.jws_segments.specs.SplitLaws.{Places};
-ghost use Rattle.jws.specs.Judging.{tests_of, refusal_of, acceptance_of, concluded, decided_as, JudgedBy};
+ghost use Rattle.jws.specs.Judging.{tests_of, concluded, decided_as, JudgedBy};
 
-use answers::{
-    BAD_TABLE, BUFFER_TOO_SHORT, DONE, HEADER_TOO_LONG, NOT_BASE64URL, NOT_TWO_PERIODS,
-    SIGNATURE_DIFFERS, TOKEN_TOO_LONG,
-};
+use answers::Refusal;
 use jose::decide_with;
-use jose_rules::{Choice, Decision, Part};
+use jose_rules::Choice;
 use json_rules::LONGEST;
-use jws_rules::{Record, TOKEN_MOST, Verified};
+use jws_rules::{Record, TOKEN_MOST};
 use jws_segments::{Opened, is_mac, open_segments, split};
+use keytable::KeyTable;
 
-// A refusal: its number, and a record of zeros.
-fn refusal(answer: u8) -> Verified
-    ensures { result ≡ refusal_of answer }
+// Rule 15: the signature is the MAC of the JWS Signing Input under the chosen key's secret.
+fn conclude(opened: Opened, choice: Choice, input: &[u8], table: KeyTable<'_>) -> Result<Record, Refusal>
+    requires { choice.key_index < length (keys table.bytes.now) }
+    ensures { verify_result result ≡ concluded opened choice input.now table.entry.bytes.now }
 {
-    Verified {
-        answer,
-        details: Record {
-            header_length: 0,
-            payload_length: 0,
-            choice: Choice {
-                key_index: 0,
-                kid_present: false,
-                format: 0,
-                typ: Part {
-                    start: 0,
-                    length: 0,
-                },
-                cty: Part {
-                    start: 0,
-                    length: 0,
-                },
-            },
-        },
-    }
-}
-
-// An acceptance: the lengths of what was opened, and what the header decides.
-fn acceptance(opened: Opened, choice: Choice) -> Verified
-    ensures { result ≡ acceptance_of opened choice }
-{
-    Verified {
-        answer: DONE,
-        details: Record {
+    let mac = hmac::hmac_sha256(table.key(choice.key_index).secret(), input);
+    if is_mac(opened.signature, &mac) {
+        return Ok(Record {
             header_length: opened.header,
             payload_length: opened.payload,
             choice,
-        },
+        });
     }
-}
-
-// Rule 15: the signature is the MAC of the JWS Signing Input under the chosen key's secret.
-fn conclude(opened: Opened, choice: Choice, input: &[u8], table: &[u8]) -> Verified
-    requires { (bad_table table.now ≡ false) × (choice.key_index < length (keys table.now)) }
-    ensures { result ≡ concluded opened choice input.now table.now }
-{
-    let key = choice.key_index;
-    let mac = hmac::hmac_sha256(keytable::secret(table, key), input);
-    if is_mac(opened.signature, &mac) {
-        return acceptance(opened, choice);
-    }
-    refusal(SIGNATURE_DIFFERS)
+    Err(Refusal::SignatureDiffers)
 }
 
 // Rules 7 to 15, of a decoded header.
-fn judge_header(opened: Opened, header: &[u8], input: &[u8], table: &[u8]) -> Verified
-    requires { bad_table table.now ≡ false }
-    ensures { result ≡ decided_as (decision_with header.now (terms_of table.now)) opened input.now table.now }
+fn judge_header(opened: Opened, header: &[u8], input: &[u8], table: KeyTable<'_>) -> Result<Record, Refusal>
+    ensures { verify_result result ≡ decided_as (decision_with header.now (terms_of table.entry.bytes.now)) opened input.now table.entry.bytes.now }
 {
-    match decide_with(header, table) {
-        Decision::Refused(answer) => refusal(answer),
-        Decision::Chosen(choice) => conclude(opened, choice, input, table),
-    }
+    let choice = decide_with(header, table)?;
+    conclude(opened, choice, input, table)
 }
 
-// Rules 5 and 6, of what was opened, with buffers of hr and pr bytes for header and payload.
-fn lengths_answer(opened: Opened, hr: usize, pr: usize) -> u8
-    ensures { result ≡ first (tests_of opened hr pr) }
+// Rules 5 and 6, of what was opened, by the rooms of the buffers for header and payload.
+fn lengths_fit(opened: Opened, header_room: usize, payload_room: usize) -> Result<(), Refusal>
+    ensures { answer result ≡ first (tests_of opened header_room payload_room) }
 {
     if LONGEST < opened.header {
-        return HEADER_TOO_LONG;
+        return Err(Refusal::HeaderTooLong);
     }
-    if hr < opened.header {
-        return BUFFER_TOO_SHORT;
+    if header_room < opened.header || payload_room < opened.payload {
+        return Err(Refusal::BufferTooShort);
     }
-    if pr < opened.payload {
-        return BUFFER_TOO_SHORT;
-    }
-    DONE
+    Ok(())
 }
 
 // Rules 4 to 15, of a token whose periods stand at a and b.
@@ -105,41 +62,38 @@ fn judge_segments(
     token: &[u8],
     a: usize,
     b: usize,
-    table: &[u8],
+    table: KeyTable<'_>,
     header: &mut [u8],
     payload: &mut [u8],
-) -> Verified
-    requires { (bad_table table.now ≡ false) × Places token.now a b }
-    ensures { JudgedBy from_segments (verify_call token.now table.now header.old payload.old) header.new payload.new result }
+) -> Result<Record, Refusal>
+    requires { Places token.now a b }
+    ensures { JudgedBy from_segments (verify_call token.now table.entry.bytes.now header.old payload.old) header.new payload.new (verify_result result) }
 {
     let Some(opened) = open_segments(
-        &token[0..a],
+        &token[..a],
         &token[a + 1..b],
         &token[b + 1..],
         header,
         payload,
     ) else {
-        return refusal(NOT_BASE64URL);
+        return Err(Refusal::NotBase64url);
     };
-    let answer = lengths_answer(opened, header.len(), payload.len());
-    if answer != DONE {
-        return refusal(answer);
-    }
-    judge_header(opened, &header[0..opened.header], &token[0..b], table)
+    lengths_fit(opened, header.len(), payload.len())?;
+    judge_header(opened, &header[..opened.header], &token[..b], table)
 }
 
 // Rules 1 to 15: the first that refuses, or acceptance.
-pub(crate) fn judge(token: &[u8], table: &[u8], header: &mut [u8], payload: &mut [u8]) -> Verified
-    ensures { JudgedBy verify_tests (verify_call token.now table.now header.old payload.old) header.new payload.new result }
+pub(crate) fn judge(token: &[u8], table: &[u8], header: &mut [u8], payload: &mut [u8]) -> Result<Record, Refusal>
+    ensures { JudgedBy verify_tests (verify_call token.now table.now header.old payload.old) header.new payload.new (verify_result result) }
 {
     if TOKEN_MOST < token.len() {
-        return refusal(TOKEN_TOO_LONG);
+        return Err(Refusal::TokenTooLong);
     }
-    if !keytable_check::good(table) {
-        return refusal(BAD_TABLE);
-    }
+    let Some(table) = KeyTable::new(table) else {
+        return Err(Refusal::BadTable);
+    };
     let Some((a, b)) = split(token) else {
-        return refusal(NOT_TWO_PERIODS);
+        return Err(Refusal::NotTwoPeriods);
     };
     judge_segments(token, a, b, table, header, payload)
 }

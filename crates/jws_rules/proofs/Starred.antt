@@ -14,8 +14,7 @@ use Rattle.json_rules.specs.Tests.{length_test}
 use Rattle.json_rules.proofs.Rows.{answers, rows, spellings}
 use Rattle.keytable_rules.specs.Key.{Key}
 use Rattle.decimal_rules.specs.Integer.{integer_of, all_digits, after}
-use Rattle.jose_rules.specs.declared.Decision.{Decision}
-use Rattle.jose_rules.specs.declared.Decision.TheVariants.{Refused}
+use Rattle.jose_rules.specs.Decision.{Decision, Refused}
 use Rattle.common.specs.Ascii.{ascii}
 use Rattle.jose_rules.specs.Names.{alg, kid, typ, cty, crit, fmt, HS256}
 use Rattle.jose_rules.specs.Members.{strings_in}
