@@ -3,11 +3,10 @@ use mathlib.Core.Path.{◌≡◌, refl, sym, ap, ◌∙◌}
 use mathlib.Core.Bool.{Bool, true, false, not, ◌&&◌, ◌||◌, cond}
 use mathlib.Core.List.{List, [], ◌∷◌}
 use Prim.Native.Nat.{ℕ, ◌+◌, ◌-◌, ◌≤◌, ◌<◌}
-use native.Mathlib.Nat.{sub-zero}
 use native.Mathlib.Omega.{arith}
 use lib.Dec.{ltb}
 use lib.ListN.{length, take, drop, length-take}
-use borrow.Author.Tests.{lt-ltb, le-ltb, ltb-false, eq-eqb, ne_eqb, not-true, not-false}
+use borrow.Author.Tests.{lt-ltb, le-ltb, ltb-false, eq-eqb, ne_eqb}
 use Rattle.common.specs.First.{◌when◌, first}
 use Rattle.common.proofs.FirstLaws.{first_within, first_after, all_pass, passed}
 use Rattle.common.specs.Laid.{part_from}
@@ -30,9 +29,8 @@ use Rattle.jws_rules.specs.Token.{token_most, header_of, payload_of, signature_o
 use Rattle.jws_rules.specs.Tests.{segment_tests, signature_tests, from_header, from_segments, verify_tests, token_choice, token_record}
 use Rattle.jws_segments.specs.declared.opening.Opened.{Opened}
 use Rattle.jws_segments.specs.SplitLaws.{Places}
-use Rattle.jws_segments.specs.Opening.{is_mac}
 use Rattle.jws_segments.specs.OpenLaws.{compared, Opens}
-use Rattle.jws.specs.Judging.{tests_of, refusal_of, acceptance_of, concluded, decided_as, Judged, refusing, accepting}
+use Rattle.jws.specs.Judging.{tests_of, refusal_of, concluded, decided_as, Judged, refusing, accepting}
 
 -- a refusal, under the number that stands
 judged_refusal : {q : VerifyCall} {hb pb : List ℕ} {n m : ℕ} {r : Verified} → m ≡ n → (n ≡ 0 → ⊥) → r ≡ refusal_of n → Judged q hb pb m r
@@ -96,16 +94,6 @@ clear x y z hr pr e =
 
 -- RULE 15
 
--- the code's steps to the conclusion
-pub conclusion : (o : Opened) (c : Choice) (m T : List ℕ) {s mac : List ℕ} {b : Bool} {v : Verified} → s ≡ secret_of T c → mac ≡ HMACSHA256 s m
-    → b ≡ is_mac o.signature mac → v ≡ cond b (acceptance_of o c) (refusal_of 15) → v ≡ concluded o c m T
-conclusion o c m T e f g h =
-    h ∙ ap (λ (b : Bool). cond b (acceptance_of o c) (refusal_of 15)) (g ∙ ap (is_mac o.signature) (f ∙ ap (λ (s : List ℕ). HMACSHA256 s m) e))
-
--- .. and by what the header decides
-pub decision_is : (o : Opened) (m T : List ℕ) {d e f : Decision} {v : Verified} → d ≡ e → d ≡ f → v ≡ decided_as e o m T → v ≡ decided_as f o m T
-decision_is o m T e f h = h ∙ ap (λ (d : Decision). decided_as d o m T) (sym e ∙ f)
-
 judged_mac : {q : VerifyCall} {hb pb : List ℕ} {r : Verified} (s : Bool)
     → take (length (header_of q.token)) hb ≡ header_of q.token → take (length (payload_of q.token)) pb ≡ payload_of q.token
     → r ≡ cond s (record { answer = 0; details = token_record q }) (refusal_of 15)
@@ -121,21 +109,19 @@ OpensToken q = Opens (front q.token) (front (back q.token)) (back (back q.token)
 
 -- the parts of the token that the code lends are its segments
 pub parts_open : (q : VerifyCall) {hb pb : List ℕ} {a b : ℕ} {o : Opened} → let t = q.token in Places t a b
-    → Opens (take (a - 0) t) (take (b - (a + 1)) (drop (a + 1) t)) (take (length t - (b + 1)) (drop (b + 1) t)) q.header_room q.payload_room o hb pb
+    → Opens (take a t) (take (b - (a + 1)) (drop (a + 1) t)) (take (length t - (b + 1)) (drop (b + 1) t)) q.header_room q.payload_room o hb pb
     → OpensToken q o hb pb
 parts_open q {a = a} {b = b} p g =
     let t = q.token in
-    let e : front t ≡ take (a - 0) t = p.header ∙ ap (λ (n : ℕ). take n t) (sym (sub-zero a)) in
-    rw (e, p.payload, p.signature ∙ sym (part_from (b + 1) t)) g
+    rw (p.header, p.payload, p.signature ∙ sym (part_from (b + 1) t)) g
 
 -- .. and where one isn't strict, neither is one of the token's
 pub parts_not : (q : VerifyCall) {a b : ℕ} → let t = q.token in Places t a b
-    → strict (take (a - 0) t) && (strict (take (b - (a + 1)) (drop (a + 1) t)) && strict (take (length t - (b + 1)) (drop (b + 1) t))) ≡ false
+    → strict (take a t) && (strict (take (b - (a + 1)) (drop (a + 1) t)) && strict (take (length t - (b + 1)) (drop (b + 1) t))) ≡ false
     → strict (front t) && (strict (front (back t)) && strict (back (back t))) ≡ false
 parts_not q {a} {b} p g =
     let t = q.token in
-    let e : front t ≡ take (a - 0) t = p.header ∙ ap (λ (n : ℕ). take n t) (sym (sub-zero a)) in
-    rw (e, p.payload, p.signature ∙ sym (part_from (b + 1) t)) g
+    rw (p.header, p.payload, p.signature ∙ sym (part_from (b + 1) t)) g
 
 module _ (q : VerifyCall) {hb pb : List ℕ} {o : Opened} (g : OpensToken q o hb pb) where
   abbrev t : List ℕ
@@ -189,12 +175,11 @@ module _ (q : VerifyCall) {hb pb : List ℕ} {o : Opened} (g : OpensToken q o hb
         rw n (judged_mac (same (signature_of t) mac) header payload (f ∙ rw (d.1, g.header, g.payload, g.signature, compare)))
 
     -- by what the header decides
-    pub judged_header : {b c : ℕ} {r : Verified} → Places t c b → r ≡ decided_as (decision_with (take (o.header - 0) hb) (terms_of q.table)) o (take (b - 0) t) q.table
+    pub judged_header : {b c : ℕ} {r : Verified} → Places t c b → r ≡ decided_as (decision_with (take o.header hb) (terms_of q.table)) o (take b t) q.table
         → Judged q hb pb (first (from_segments q)) r
     judged_header {b = b} {r = r} p f =
-        let h : take (o.header - 0) hb ≡ header_of t =
-        ap (λ (n : ℕ). take n hb) (sub-zero o.header ∙ g.header) ∙ header in
-        let m : take (b - 0) t ≡ sent_input t = ap (λ (n : ℕ). take n t) (sub-zero b) ∙ sym p.before in
+        let h : take o.header hb ≡ header_of t = ap (λ (n : ℕ). take n hb) g.header ∙ header in
+        let m : take b t ≡ sent_input t = sym p.before in
         go (decision_with (header_of t) (terms_of q.table)) refl (f ∙ rw (h, m))
       where
         go : (d : Decision) → decision_with (header_of t) (terms_of q.table) ≡ d → r ≡ decided_as d o (sent_input t) q.table → Judged q hb pb (first (from_segments q)) r

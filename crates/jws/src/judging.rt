@@ -21,7 +21,12 @@ use jws_segments::{Opened, is_mac, open_segments, split};
 use keytable::KeyTable;
 
 // Rule 15: the signature is the MAC of the JWS Signing Input under the chosen key's secret.
-fn conclude(opened: Opened, choice: Choice, input: &[u8], table: KeyTable<'_>) -> Result<Record, Refusal>
+fn conclude(
+    opened: Opened,
+    choice: Choice,
+    input: &[u8],
+    table: KeyTable<'_>,
+) -> Result<Record, Refusal>
     requires { choice.key_index < length (keys table.bytes.now) }
     ensures { verify_result result ≡ concluded opened choice input.now table.entry.bytes.now }
 {
@@ -37,7 +42,12 @@ fn conclude(opened: Opened, choice: Choice, input: &[u8], table: KeyTable<'_>) -
 }
 
 // Rules 7 to 15, of a decoded header.
-fn judge_header(opened: Opened, header: &[u8], input: &[u8], table: KeyTable<'_>) -> Result<Record, Refusal>
+fn judge_header(
+    opened: Opened,
+    header: &[u8],
+    input: &[u8],
+    table: KeyTable<'_>,
+) -> Result<Record, Refusal>
     ensures { verify_result result ≡ decided_as (decision_with header.now (terms_of table.entry.bytes.now)) opened input.now table.entry.bytes.now }
 {
     let choice = decide_with(header, table)?;
@@ -83,7 +93,12 @@ fn judge_segments(
 }
 
 // Rules 1 to 15: the first that refuses, or acceptance.
-pub(crate) fn judge(token: &[u8], table: &[u8], header: &mut [u8], payload: &mut [u8]) -> Result<Record, Refusal>
+pub(crate) fn judge(
+    token: &[u8],
+    table: &[u8],
+    header: &mut [u8],
+    payload: &mut [u8],
+) -> Result<Record, Refusal>
     ensures { JudgedBy verify_tests (verify_call token.now table.now header.old payload.old) header.new payload.new (verify_result result) }
 {
     if TOKEN_MOST < token.len() {

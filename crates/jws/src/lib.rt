@@ -24,7 +24,12 @@ fn lengths(verified: Result<Record, Refusal>) -> (usize, usize)
 
 // Verifies a token, and answers what it holds. Past what the record speaks of each buffer is cleared: whole on a refusal.
 // Rules out a token accepted on the first bytes of its signature, and a refusal that leaves a byte of the header behind.
-pub fn verify(token: &[u8], table: &[u8], header: &mut [u8], payload: &mut [u8]) -> Result<Record, Refusal>
+pub fn verify(
+    token: &[u8],
+    table: &[u8],
+    header: &mut [u8],
+    payload: &mut [u8],
+) -> Result<Record, Refusal>
     ensures { given (verify_result result) header.new payload.new ≡ verified (verify_call token.now table.now header.old payload.old) }
 {
     let verified = judging::judge(token, table, header, payload);

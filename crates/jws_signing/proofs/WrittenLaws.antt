@@ -1,4 +1,6 @@
 -- A buffer that is cleared past what the result speaks of.
+use Rattle.std.specs.Prelude.{Result, Ok, Err}
+use Rattle.std.specs.Result.{result_unwrap_or}
 use mathlib.Core.Path.{◌≡◌, refl, ap, sym, subst, ◌∙◌}
 use mathlib.Core.List.{List}
 use Prim.Native.Nat.{ℕ, ◌-◌, ◌≤◌}
@@ -7,9 +9,16 @@ use lib.ListN.{length, take, drop, replicate}
 use borrow.Rule.Slice.PartMut.{put_mid}
 use Rattle.common.specs.Buffer.{filled, laid}
 use Rattle.common.specs.Laid.{cleared_from, take_laid}
+use Rattle.answers.specs.declared.Refusal.{Refusal}
+use Rattle.jws_rules.specs.Results.{sign_result}
 use Rattle.jws_rules.specs.Outcomes.{Signed}
 use Rattle.jws_rules.specs.Outcomes.{SignOutcome, handed, unsigned, signed_as}
 use Rattle.jws_signing.specs.Written.{Written, unsigned_result}
+
+-- how far the token goes
+pub reaches : (r : Result ℕ Refusal) → result_unwrap_or r 0 ≡ (sign_result r).length
+reaches (Ok n) = refl
+reaches (Err e) = refl
 
 -- what the outer function hands back
 pub settled : (outcome : SignOutcome) (token₀ token z : List ℕ) {r : Signed} → Written outcome token₀ r token

@@ -34,12 +34,7 @@ fn signing_input(alphabet: &Alphabet, header: &[u8], payload: &[u8], token: &mut
     ensures { Front (encode header.now dot encode payload.now) token.old result token.new }
 {
     encode_with(alphabet, header, token);
-    segment(
-        alphabet,
-        payload,
-        token,
-        encoded_len(header),
-    )
+    segment(alphabet, payload, token, encoded_len(header))
 }
 
 // Writes the token at the front of a buffer that has room for it. Each byte is written once, and the MAC is taken of what stands there.
@@ -73,7 +68,12 @@ fn finish(secret: &[u8], header: &[u8], payload: &[u8], token: &mut [u8]) -> Res
 }
 
 // Decides, and writes the token at the buffer's front.
-pub(crate) fn make(header: &[u8], payload: &[u8], table: &[u8], token: &mut [u8]) -> Result<usize, Refusal>
+pub(crate) fn make(
+    header: &[u8],
+    payload: &[u8],
+    table: &[u8],
+    token: &mut [u8],
+) -> Result<usize, Refusal>
     ensures { Written (signed (sign_call header.now payload.now table.now token.old)) token.old (sign_result result) token.new }
 {
     let choice = jose::decide(header, table)?;

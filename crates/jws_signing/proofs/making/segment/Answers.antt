@@ -1,5 +1,4 @@
 -- `segment` meets its contract: a period, and behind it the text.
-use mathlib.Core.Path.{◌∙◌}
 use native.Mathlib.Omega.{arith}
 use lib.ListN.{length-set}
 use Rattle.base64url_rules.proofs.LengthLaws.{length_encode}
@@ -14,9 +13,6 @@ slice_bounds-encode_with-start c = simp length-set (omega arith)
 
 pub overflow_add-result-2 : goal.overflow_add-result-2
 overflow_add-result-2 c = omega (arith, length_encode c.args.bytes.now)
-
-pub shape_of-token : goal.shape_of-token
-shape_of-token c = c.token-1.given.1 ∙ simp length-set
 
 pub returns : goal.returns
 returns c =

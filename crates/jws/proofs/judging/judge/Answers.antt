@@ -1,0 +1,22 @@
+-- `judge` meets its contract: rules 1 to 3 refuse, or the segments are judged.
+use mathlib.Core.Path.{refl, sym, ◌∙◌}
+use native.Mathlib.Omega.{arith}
+use Rattle.jws_segments.specs.SplitLaws.{split_at, split_not}
+use Rattle.jws.proofs.JudgeLaws as law
+use Rattle.jws.proofs.judging.judge.Goals as goal
+
+pub returns-then-token-gt-TOKEN_MOST : goal.returns-then-token-gt-TOKEN_MOST
+returns-then-token-gt-TOKEN_MOST c = law.refused_long _ (omega arith) refl
+
+pub returns-in_default : goal.returns-in_default
+returns-in_default c = law.refused_table _ (omega arith) c.in_default.ensures refl
+
+pub returns-in_default-split : goal.returns-in_default-split
+returns-in_default-split c = law.refused_periods _ (omega arith) (rw c.in-Some.ensures at c.in-Some.table.in_order) (split_not _ (sym c.in_default-split.is ∙ c.split.ensures)) refl
+
+pub judge_segments-requires : goal.judge_segments-requires
+judge_segments-requires c = split_at _ (sym c.in-Some-split.is ∙ c.split.ensures)
+
+pub returns : goal.returns
+returns c =
+    law.judged_token _ (omega arith) (rw c.in-Some.ensures at c.in-Some.table.in_order) (split_at _ (sym c.in-Some-split.is ∙ c.split.ensures)).two (rw c.in-Some.ensures at c.judge_segments.ensures)
