@@ -9,20 +9,17 @@ fn sha256(count: usize, x: u8) -> [u8; 32]
     let k = sha256::constants();
     let part = [x; 6400];
     let mut state = sha256::initial();
-    let mut done: usize = 0;
-    while 6400 <= count - done {
+    for _ in 0..count / part.len() {
         let next = sha256::absorb(state, &k, &part);
         state = next;
-        done += 6400;
     }
-    let rest = count - done;
-    sha256::hash_after(state, &k, done, &part[0..rest])
+    let rest = count % part.len();
+    sha256::hash_after(state, &k, count - rest, &part[..rest])
 }
 
 // .. with the count and the byte as a line writes them.
 pub fn written(count: &[u8], x: &[u8]) -> [u8; 32] {
     let mut byte = [0u8; 1];
     text::unhex(x, &mut byte);
-    let n = text::decimal(count);
-    sha256(n, byte[0])
+    sha256(text::decimal(count), byte[0])
 }
