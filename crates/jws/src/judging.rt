@@ -53,8 +53,8 @@ fn acceptance(opened: Opened, choice: Choice) -> Verified
     Verified {
         answer: DONE,
         details: Record {
-            header_length: opened.header,
-            payload_length: opened.payload,
+            header_length: opened.header_length,
+            payload_length: opened.payload_length,
             choice,
         },
     }
@@ -88,13 +88,13 @@ fn judge_header(opened: Opened, header: &[u8], input: &[u8], table: &[u8]) -> Ve
 fn lengths_answer(opened: Opened, hr: usize, pr: usize) -> u8
     ensures { result ≡ first (tests_of opened hr pr) }
 {
-    if LONGEST < opened.header {
+    if LONGEST < opened.header_length {
         return HEADER_TOO_LONG;
     }
-    if hr < opened.header {
+    if hr < opened.header_length {
         return BUFFER_TOO_SHORT;
     }
-    if pr < opened.payload {
+    if pr < opened.payload_length {
         return BUFFER_TOO_SHORT;
     }
     DONE
@@ -125,7 +125,7 @@ fn judge_segments(
     if answer != DONE {
         return refusal(answer);
     }
-    judge_header(opened, &header[0..opened.header], &token[0..b], table)
+    judge_header(opened, &header[0..opened.header_length], &token[0..b], table)
 }
 
 // Rules 1 to 15: the first that refuses, or acceptance.
