@@ -38,7 +38,7 @@ unused_length (c ∷ s) h = omega arith
 
 module _ (s : List ℕ) where
   -- what the search says, by the test of the fault
-  searched : position past s ≡ cond (ltb (first_outside s) (length s)) (Some (first_outside s)) None
+  pub searched : position past s ≡ cond (ltb (first_outside s) (length s)) (Some (first_outside s)) None
   searched = rw (← first_is s)
 
   pub at_outside : (place : ℕ) → Some place ≡ position past s → Decoded.Fault place ≡ refusal (fault s)

@@ -1,13 +1,13 @@
 -- A group more, and a rest of at most two bytes, filled up with 0.
 use mathlib.Core.Path.{◌≡◌, refl, ap, sym, ◌∙◌}
 use mathlib.Core.List.{List, [], ◌∷◌}
-use Prim.Native.Nat.{ℕ, ◌+◌, ◌-◌, ◌*◌, ◌/◌, ◌%◌, ◌≤◌, ◌<◌}
+use Prim.Native.Nat.{ℕ, ◌+◌, ◌*◌, ◌%◌, ◌≤◌}
 use native.Mathlib.Omega.{arith}
 use lib.ListN.{length, get_or, take, drop, set, length-drop}
 use lib.Seq.{length-take-le}
 use Rattle.common.specs.Buffer.{laid}
-use Rattle.common.specs.Laid.{four_stores, laid_stores, part_from}
-use Rattle.base64url_rules.specs.Base64url.{encode, encoded_length}
+use Rattle.common.specs.Laid.{four_stores, laid_stores}
+use Rattle.base64url_rules.specs.Base64url.{encode}
 use Rattle.base64url_rules.proofs.Grouping.{encode_grouping, part_more}
 use Rattle.base64url_rules.proofs.LengthLaws.{length_encode, encoded_length_lem}
 use Rattle.base64url_rules.proofs.Listed.{as_entries}
@@ -26,19 +26,6 @@ group_more s out₀ i {out} {group} {text} h k g e f =
     four_stores out (i * 4) (get_or text 0 0) (get_or text 1 0) (get_or text 2 0) (get_or text 3 0)
     ∙ part_more encode_grouping s out₀ (i * 3) (i * 4) (omega arith) (omega arith) (omega arith) 3 ((i + 1) * 3) (omega arith) (omega arith) e
     (ap encode (sym g) ∙ whole ∙ sym (as_entries text 4 four))
-
--- the rest is short, and fits where the whole does
-pub rest_fits : (s out : List ℕ) → encoded_length (length s) ≤ length out
-    → let rest = take (length s - length s / 3 * 3) (drop (length s / 3 * 3) s) in
-    (length rest < 3) × (encoded_length (length rest) ≤ length (take (length out - length s / 3 * 4) (drop (length s / 3 * 4) out)))
-rest_fits s out h =
-    let n = length s / 3 * 3 in
-    let m = length s / 3 * 4 in
-    let r : length (take (length s - n) (drop n s)) ≡ length s - n = ap length (part_from n s) ∙ length-drop n s in
-    let o : length (take (length out - m) (drop m out)) ≡ length out - m = ap length (part_from m out) ∙ length-drop m out in
-    let e = encoded_length_lem (length (take (length s - n) (drop n s))) in
-    let k = encoded_length_lem (length s) in
-    (omega arith, omega arith)
 
 -- n bytes, by these one by one
 pub as_listed : (s : List ℕ) (n : ℕ) (out₀ : List ℕ) {out : List ℕ} → length s ≡ n → out ≡ laid (encode (entries (λ i. get_or s i 0) 0 n)) out₀ → out ≡ laid (encode s) out₀

@@ -1,7 +1,7 @@
 -- Numbers with a sign: the value of a character fits 8 and 32 bits, and what the sign of a value, and of 32 bits, tells.
 use mathlib.Core.Path.{◌≡◌, refl, ap, sym, ◌∙◌}
 use mathlib.Core.Logic.{◌⊎◌, inl, inr}
-use mathlib.Core.Bool.{Bool, true, false, cond, not, false≢true}
+use mathlib.Core.Bool.{Bool, true, false, cond, not}
 use Prim.Native.Nat.{ℕ, zero, suc, ◌%◌, ◌<◌, zero-le}
 use native.Mathlib.Omega.{arith}
 use lib.Dec.{ltb}
@@ -11,6 +11,9 @@ use borrow.Author.Tests.{ltb-true, le-ltb}
 use mir.Syntax.{w8, w32}
 use mir.Val.{SFits, of_z, to_z}
 use mir.ValLaws.{to_z-of_z, to_z_pos}
+use Rattle.std.specs.Prelude.{Result, Ok, Err, unsigned_abs}
+use Rattle.std.specs.Result.{OkIff, result_unwrap_or}
+use Rattle.std.specs.Int.{FitsUnsignedBits}
 use Rattle.common.specs.Ranges.{within}
 use Rattle.base64url_rules.specs.Alphabet.{value, in_alphabet}
 use Rattle.base64url_rules.proofs.Tables.{entries, agree, signed}
@@ -50,22 +53,17 @@ outside : (c : ℕ) → c < 256 → in_alphabet c ≡ false → value c ≡ 64
 unfolding entries within value
 outside c h e = let a : cond (in_alphabet c) 64 (value c) ≡ 64 = agree (λ c. cond (in_alphabet c) 64 (value c)) (λ c. 64) 256 c refl h in rw e at a
 
--- what the sign tells
-pub below : (c : ℕ) → c < 256 → lt_z (signed c) (pos 0) ≡ true → 64 ≡ value c
+-- the value without its sign, where it is one, and else 64
+pub unsigned : {E : Type 0} (c : ℕ) (r : Result ℕ E) → c < 256 → OkIff r (FitsUnsignedBits 8 (signed c)) (unsigned_abs (signed c)) → result_unwrap_or r 64 ≡ value c
 unfolding signed
-below c h = go (in_alphabet c) refl
+unsigned {E} c r h o = go (in_alphabet c) refl r o
   where
-    go : (t : Bool) → in_alphabet c ≡ t → lt_z (signed c) (pos 0) ≡ true → 64 ≡ value c
-    go true e n = absurd (false≢true (sym (le-ltb (value c) 0 zero-le) ∙ (rw e at n)))
-    go false e n = sym (outside c h e)
-
-pub not_below : (c : ℕ) → lt_z (signed c) (pos 0) ≡ false → (signed c ≡ pos (value c)) × (value c < 64)
-unfolding signed
-not_below c = go (in_alphabet c) refl
-  where
-    go : (t : Bool) → in_alphabet c ≡ t → lt_z (signed c) (pos 0) ≡ false → (signed c ≡ pos (value c)) × (value c < 64)
-    go true e n = (rw e, ltb-true (value c) 64 e)
-    go false e n = absurd (false≢true (sym (rw e at n)))
+    go : (t : Bool) → in_alphabet c ≡ t → (r : Result ℕ E)
+        → OkIff r (FitsUnsignedBits 8 (cond t (pos (value c)) (negsuc (c % 2)))) (unsigned_abs (cond t (pos (value c)) (negsuc (c % 2)))) → result_unwrap_or r 64 ≡ value c
+    go true e (Ok v) o = o.1
+    go true e (Err d) o = let small = ltb-true (value c) 64 e in absurd (o (omega arith))
+    go false e (Ok v) o = absurd o.0
+    go false e (Err d) o = sym (outside c h e)
 
 -- 32 bits are a number below 0 unless they are below 2 ^ 31; then they are that number
 pub sign : (n : ℕ) → lt_z (to_z w32 n) (pos 0) ≡ not (ltb n 2147483648)

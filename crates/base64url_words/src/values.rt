@@ -127,7 +127,6 @@ impl Values {
     pub fn value(&self, c: u8) -> u8
         ensures { result ≡ value c }
     {
-        let value = self.signed(c);
-        if value < 0 { 64 } else { value as u8 }
+        u8::try_from(self.signed(c)).unwrap_or(64)
     }
 }

@@ -1,23 +1,18 @@
 // One vector.
 use crate::{repeat, text};
+use base64url_decoding::{DecodeError, decode};
+use base64url_encoding::encode;
 use std::io;
 
 pub fn run(rt: &impl Print, s: &[u8]) -> io::Result<()> {
-    let args = text::rest(s);
-    vector(rt, text::first(s), text::first(args), text::rest(args))
-}
-
-fn vector(rt: &impl Print, name: &[u8], a: &[u8], b: &[u8]) -> io::Result<()> {
-    if check::same(name, b"base64url") {
-        codec(rt, a, b)?;
+    let (name, args) = text::word(s);
+    let (a, b) = text::word(args);
+    match name {
+        b"base64url" => codec(rt, a, b),
+        b"sha256" => digest(rt, a, b),
+        b"hmac-sha256" => mac(rt, a, text::word(b).0),
+        _ => Ok(()),
     }
-    if check::same(name, b"sha256") {
-        digest(rt, a, b)?;
-    }
-    if check::same(name, b"hmac-sha256") {
-        mac(rt, a, text::first(b))?;
-    }
-    Ok(())
 }
 
 // Bytes and their text: the text decoded, the bytes encoded.
@@ -28,49 +23,34 @@ fn codec(rt: &impl Print, hex: &[u8], s: &[u8]) -> io::Result<()> {
     rt.write_all(b"base64url ")?;
     decoded(rt, s, &mut out)?;
     rt.write_all(b" ")?;
-    encoded(rt, &bytes[0..n], &mut out)?;
+    encoded(rt, &bytes[..n], &mut out)?;
     rt.write_all(b"\n")
 }
 
 fn decoded(rt: &impl Print, s: &[u8], out: &mut [u8]) -> io::Result<()> {
-    if check::same(s, b"-") {
+    if matches!(s, b"-") {
         return rt.write_all(b"-");
     }
-    match base64url_decoding::decode(s, out) {
-        base64url_decoding::Decoded::Bytes(n) => {
-            if n <= out.len() {
-                text::put_hex(rt, &out[0..n])?;
-            }
-        }
-        base64url_decoding::Decoded::Fault(_) => {
-            rt.write_all(b"fault")?;
-        }
-        base64url_decoding::Decoded::Short => {
-            rt.write_all(b"short")?;
-        }
+    match decode(s, out) {
+        Ok(n) => text::put_hex(rt, out.get(..n).unwrap_or(&[])),
+        Err(DecodeError::Fault(_)) => rt.write_all(b"fault"),
+        Err(DecodeError::Short) => rt.write_all(b"short"),
     }
-    Ok(())
 }
 
 fn encoded(rt: &impl Print, s: &[u8], out: &mut [u8]) -> io::Result<()> {
-    match base64url_encoding::encode(s, out) {
-        base64url_encoding::Encoded::Text(n) => {
-            if n <= out.len() {
-                text::put_text(rt, &out[0..n])?;
-            }
-        }
-        base64url_encoding::Encoded::Short => {
-            rt.write_all(b"short")?;
-        }
+    match encode(s, out) {
+        Some(n) => text::put_text(rt, out.get(..n).unwrap_or(&[])),
+        None => rt.write_all(b"short"),
     }
-    Ok(())
 }
 
 // A message, or REPEAT, a count and a byte; its digest.
 fn digest(rt: &impl Print, a: &[u8], b: &[u8]) -> io::Result<()> {
     rt.write_all(b"sha256 ")?;
-    if check::same(a, b"REPEAT") {
-        repeated(rt, text::first(b), text::first(text::rest(b)))
+    if matches!(a, b"REPEAT") {
+        let (count, rest) = text::word(b);
+        repeated(rt, count, text::word(rest).0)
     } else {
         hashed(rt, a)
     }
@@ -79,8 +59,8 @@ fn digest(rt: &impl Print, a: &[u8], b: &[u8]) -> io::Result<()> {
 fn hashed(rt: &impl Print, hex: &[u8]) -> io::Result<()> {
     let mut message = [0u8; 256];
     let n = text::unhex(hex, &mut message);
-    let d = sha256::sha256(&message[0..n]);
-    text::put_hex(rt, &message[0..n])?;
+    let d = sha256::sha256(&message[..n]);
+    text::put_hex(rt, &message[..n])?;
     put_last(rt, &d)
 }
 
@@ -99,7 +79,7 @@ fn mac(rt: &impl Print, a: &[u8], b: &[u8]) -> io::Result<()> {
     let mut message = [0u8; 256];
     let n = text::unhex(a, &mut key);
     let m = text::unhex(b, &mut message);
-    put_mac(rt, &key[0..n], &message[0..m])
+    put_mac(rt, &key[..n], &message[..m])
 }
 
 fn put_mac(rt: &impl Print, key: &[u8], message: &[u8]) -> io::Result<()> {

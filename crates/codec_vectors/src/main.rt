@@ -13,15 +13,12 @@ mod text;
 fn main(rt: HostRuntime) -> io::Result<()> {
     let mut buffer = [0u8; 16384];
     let n = read_full(&mut rt.reader(), &mut buffer);
-    lines(&rt, &buffer[0..n])
+    lines(&rt, &buffer[..n])
 }
 
 fn lines(rt: &impl Print, s: &[u8]) -> io::Result<()> {
-    let mut at: usize = 0;
-    while at < s.len() {
-        let end = at + text::find(&s[at..], b'\n');
-        line::run(rt, &s[at..end])?;
-        at = end + 1;
+    for line in s.split(|byte| *byte == b'\n') {
+        line::run(rt, line)?;
     }
     Ok(())
 }

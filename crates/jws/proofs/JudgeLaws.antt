@@ -68,18 +68,18 @@ refused_strict q e f = let t = q.token in judged_refusal (rw (not_all (strict (f
 
 -- the answer where each segment is strict, by the lengths
 module _ (o : Opened) (hr pr : ℕ) where
-  pub header_long : longest < o.header → 5 ≡ first (tests_of o hr pr)
-  header_long h = rw (lt-ltb longest o.header h)
+  pub header_long : longest < o.header_length → 5 ≡ first (tests_of o hr pr)
+  header_long h = rw (lt-ltb longest o.header_length h)
 
-  module _ (short : o.header ≤ longest) where
-    pub header_room_lem : hr < o.header → 6 ≡ first (tests_of o hr pr)
-    header_room_lem h = rw (le-ltb longest o.header short, lt-ltb hr o.header h)
+  module _ (short : o.header_length ≤ longest) where
+    pub header_room_lem : hr < o.header_length → 6 ≡ first (tests_of o hr pr)
+    header_room_lem h = rw (le-ltb longest o.header_length short, lt-ltb hr o.header_length h)
 
-    pub payload_room_lem : o.header ≤ hr → pr < o.payload → 6 ≡ first (tests_of o hr pr)
-    payload_room_lem k h = rw (le-ltb longest o.header short, le-ltb hr o.header k, lt-ltb pr o.payload h)
+    pub payload_room_lem : o.header_length ≤ hr → pr < o.payload_length → 6 ≡ first (tests_of o hr pr)
+    payload_room_lem k h = rw (le-ltb longest o.header_length short, le-ltb hr o.header_length k, lt-ltb pr o.payload_length h)
 
-    pub rooms : o.header ≤ hr → o.payload ≤ pr → 0 ≡ first (tests_of o hr pr)
-    rooms k h = rw (le-ltb longest o.header short, le-ltb hr o.header k, le-ltb pr o.payload h)
+    pub rooms : o.header_length ≤ hr → o.payload_length ≤ pr → 0 ≡ first (tests_of o hr pr)
+    rooms k h = rw (le-ltb longest o.header_length short, le-ltb hr o.header_length k, le-ltb pr o.payload_length h)
 
 -- what the rules say where none refuses
 record Clear (x y z : List ℕ) (hr pr : ℕ) : Type 0 where
@@ -151,7 +151,7 @@ module _ (q : VerifyCall) {hb pb : List ℕ} {o : Opened} (g : OpensToken q o hb
     header : take (length (header_of t)) hb ≡ header_of t
     header = g.header_front is_clear.header_fits
 
-    pub header_within : o.header ≤ length hb
+    pub header_within : o.header_length ≤ length hb
     header_within =
         omega (arith, ap length header, g.header, length-take (length (header_of t)) hb)
 
@@ -175,10 +175,10 @@ module _ (q : VerifyCall) {hb pb : List ℕ} {o : Opened} (g : OpensToken q o hb
         rw n (judged_mac (same (signature_of t) mac) header payload (f ∙ rw (d.1, g.header, g.payload, g.signature, compare)))
 
     -- by what the header decides
-    pub judged_header : {b c : ℕ} {r : Verified} → Places t c b → r ≡ decided_as (decision_with (take o.header hb) (terms_of q.table)) o (take b t) q.table
+    pub judged_header : {b c : ℕ} {r : Verified} → Places t c b → r ≡ decided_as (decision_with (take o.header_length hb) (terms_of q.table)) o (take b t) q.table
         → Judged q hb pb (first (from_segments q)) r
     judged_header {b = b} {r = r} p f =
-        let h : take o.header hb ≡ header_of t = ap (λ (n : ℕ). take n hb) g.header ∙ header in
+        let h : take o.header_length hb ≡ header_of t = ap (λ (n : ℕ). take n hb) g.header ∙ header in
         let m : take b t ≡ sent_input t = sym p.before in
         go (decision_with (header_of t) (terms_of q.table)) refl (f ∙ rw (h, m))
       where

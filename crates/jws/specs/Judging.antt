@@ -14,14 +14,14 @@ use Rattle.jws_segments.specs.Opening.{is_mac}
 
 -- rules 4 to 6, by what was opened of segments that are strict
 abbrev pub tests_of : Opened → ℕ → ℕ → List Test
-tests_of o hr pr = opened_tests true true true o.header o.payload hr pr
+tests_of o hr pr = opened_tests true true true o.header_length o.payload_length hr pr
 
 -- a refusal; and acceptance, by what was opened and chosen
 abbrev pub refusal_of : ℕ → Verified
 refusal_of n = record { answer = n; details = zero_record }
 
 abbrev pub acceptance_of : Opened → Choice → Verified
-acceptance_of o c = record { answer = 0; details = record { header_length = o.header; payload_length = o.payload; choice = c } }
+acceptance_of o c = record { answer = 0; details = record { header_length = o.header_length; payload_length = o.payload_length; choice = c } }
 
 -- by the MAC of m under the secret of the chosen key
 abbrev pub concluded : Opened → Choice → List ℕ → List ℕ → Verified

@@ -33,8 +33,8 @@ fn conclude(
     let mac = hmac::hmac_sha256(table.key(choice.key_index).secret(), input);
     if is_mac(opened.signature, &mac) {
         return Ok(Record {
-            header_length: opened.header,
-            payload_length: opened.payload,
+            header_length: opened.header_length,
+            payload_length: opened.payload_length,
             choice,
         });
     }
@@ -58,10 +58,10 @@ fn judge_header(
 fn lengths_fit(opened: Opened, header_room: usize, payload_room: usize) -> Result<(), Refusal>
     ensures { answer result ≡ first (tests_of opened header_room payload_room) }
 {
-    if LONGEST < opened.header {
+    if LONGEST < opened.header_length {
         return Err(Refusal::HeaderTooLong);
     }
-    if header_room < opened.header || payload_room < opened.payload {
+    if header_room < opened.header_length || payload_room < opened.payload_length {
         return Err(Refusal::BufferTooShort);
     }
     Ok(())
@@ -89,7 +89,7 @@ fn judge_segments(
         return Err(Refusal::NotBase64url);
     };
     lengths_fit(opened, header.len(), payload.len())?;
-    judge_header(opened, &header[..opened.header], &token[..b], table)
+    judge_header(opened, &header[..opened.header_length], &token[..b], table)
 }
 
 // Rules 1 to 15: the first that refuses, or acceptance.

@@ -59,7 +59,7 @@ compared z mac l = go (eqb (length (decode z)) 32) refl
 
 -- what is opened, by the lengths of the segments that are strict, and the bytes of the third
 abbrev pub joined : Option ℕ → Option ℕ → Option ℕ → List ℕ → Option Opened
-joined (Some n) (Some m) (Some k) bytes = Some (record { header = n; payload = m; signature = then_some (eqb k 32) bytes })
+joined (Some n) (Some m) (Some k) bytes = Some (record { header_length = n; payload_length = m; signature = then_some (eqb k 32) bytes })
 joined (Some n) (Some m) None bytes = None
 joined (Some n) None w bytes = None
 joined None v w bytes = None
@@ -90,8 +90,8 @@ pub record Opens (x y z : List ℕ) (hr pr : ℕ) (o : Opened) (hb pb : List ℕ
   pub strict1 : strict x ≡ true
   pub strict2 : strict y ≡ true
   pub strict3 : strict z ≡ true
-  pub header : o.header ≡ length (decode x)
-  pub payload : o.payload ≡ length (decode y)
+  pub header : o.header_length ≡ length (decode x)
+  pub payload : o.payload_length ≡ length (decode y)
   pub signature : o.signature ≡ signature_in z
   pub header_front : length (decode x) ≤ hr → take (length (decode x)) hb ≡ decode x
   pub payload_front : length (decode y) ≤ pr → take (length (decode y)) pb ≡ decode y
@@ -112,8 +112,8 @@ opens x y z h p {o} {hb} {pb} e =
           strict1 = a.0;
           strict2 = b.0;
           strict3 = b.1;
-          header = ap (λ (o : Opened). o.header) is;
-          payload = ap (λ (o : Opened). o.payload) is;
+          header = ap (λ (o : Opened). o.header_length) is;
+          payload = ap (λ (o : Opened). o.payload_length) is;
           signature = ap (λ (o : Opened). o.signature) is;
           header_front = λ l. rw f (decoded_front x h a.0 l);
           payload_front = λ l. rw g (decoded_front y p b.0 l);

@@ -24,7 +24,7 @@ is_mac None mac = false
 
 -- what is opened, if each segment is strict; and what the buffers hold then
 abbrev pub parts_of : List ℕ → List ℕ → List ℕ → Opened
-parts_of x y z = record { header = length (decode x); payload = length (decode y); signature = signature_in z }
+parts_of x y z = record { header_length = length (decode x); payload_length = length (decode y); signature = signature_in z }
 
 abbrev pub opened_of : List ℕ → List ℕ → List ℕ → Option Opened
 opened_of x y z = cond (strict x && (strict y && strict z)) (Some (parts_of x y z)) None

@@ -3,17 +3,8 @@ use mathlib.Core.Path.{sym, ◌∙◌}
 use Prim.Native.Nat.{◌*◌, ◌/◌}
 use native.Mathlib.Omega.{arith}
 use lib.ListN.{length}
-use lib.Seq.{length-take-le}
 use Rattle.base64url_decoding.proofs.DecodeLaws.{not_strict, front_refused, whole}
 use Rattle.base64url_decoding.proofs.groups.decode_into.Goals as goal
-
-pub slice_bounds-decode_front-end : goal.slice_bounds-decode_front-end
-slice_bounds-decode_front-end c = sym (length-take-le (length c.args.text.now / 8 * 8) c.args.text.now (omega arith))
-
-pub decode_front-requires : goal.decode_front-requires
-decode_front-requires c =
-    let n = length-take-le (length c.args.text.now / 8 * 8) c.args.text.now (omega arith) in
-    (omega (arith, n), omega (arith, n))
 
 pub returns-then-decode_front : goal.returns-then-decode_front
 returns-then-decode_front c =

@@ -2,7 +2,6 @@
 use mathlib.Core.Path.{ap, sym, ◌∙◌}
 use Prim.Native.Nat.{◌+◌, ◌-◌, ◌*◌}
 use native.Mathlib.Omega.{arith}
-use lib.Seq.{take_all}
 use Rattle.base64url_rules.proofs.Grouping.{chunk_at}
 use Rattle.base64url_words.specs.Words.{grouped}
 use Rattle.base64url_decoding.proofs.DecodeLaws.{nothing, one_more, refused}
@@ -21,8 +20,3 @@ loop-i-preserved g c =
     let pair = chunk_at 8 _ c.loop-i.i c.args.text.now c.as_chunks.ensures.front (omega arith) in
     one_more c.args.text.now c.args.out.now c.loop-i.out c.loop-i.i (omega arith) c.loop-i.invariant (c.loop-i.i * 6 + 6 - c.loop-i.i * 6) (omega arith)
     (sym c.in-Some.is ∙ c.two_groups.ensures ∙ ap grouped pair) c.copy_from_slice.ensures.after
-
-pub returns : goal.returns
-returns g c =
-    let e = take_all (c.loop-i.i * 8) c.args.text.now (omega arith) in
-    rw e at c.loop-i.invariant
