@@ -4,7 +4,7 @@ ghost use Rattle.json_grammar_rules.specs.Bytes.{is_high};
 ghost use Rattle.json_grammar_rules.specs.Reader.{read_hex, read_low, read_unicode, read_escape};
 ghost use Rattle.json_characters.specs.Steps.{ScanAt, ShortEscape};
 
-use crate::classes::{between32, hex_val, is_hex};
+use crate::classes::hex_digit;
 
 // Four hexadecimal digits.
 fn hex(s: &[u8], from: usize) -> Option<(u32, usize)>
@@ -14,20 +14,11 @@ fn hex(s: &[u8], from: usize) -> Option<(u32, usize)>
     if s.len() - from < 4 {
         return None;
     }
-    let mut at = from;
-    let mut left: usize = 4;
     let mut code: u32 = 0;
-    while left > 0 {
-        let b = s[at];
-        if is_hex(b) {
-            code = code * 16 + hex_val(b);
-            at += 1;
-            left -= 1;
-        } else {
-            return None;
-        }
+    for at in from..from + 4 {
+        code = code * 16 + hex_digit(s[at])?;
     }
-    Some((code, at))
+    Some((code, from + 4))
 }
 
 // The escaped low surrogate, from DC00 to DFFF, that must follow the high surrogate `high`.
@@ -45,10 +36,10 @@ fn low(s: &[u8], at: usize, high: u32) -> Option<(u32, usize)>
         return None;
     }
     let (x, next) = hex(s, at + 2)?;
-    if between32(0xDC00, 0xDFFF, x) {
-        return Some((0x10000 + (high - 0xD800) * 1024 + (x - 0xDC00), next));
+    match x {
+        0xDC00..=0xDFFF => Some((0x10000 + (high - 0xD800) * 1024 + (x - 0xDC00), next)),
+        _ => None,
     }
-    None
 }
 
 // What follows `\u`: four digits; those of a high surrogate, from D800 to DBFF, are followed directly by a low one, which never stands alone.
@@ -57,13 +48,11 @@ fn unicode(s: &[u8], at: usize) -> Option<(u32, usize)>
     ensures { ScanAt read_unicode s.now at result }
 {
     let (x, next) = hex(s, at)?;
-    if between32(0xD800, 0xDBFF, x) {
-        return low(s, next, x);
+    match x {
+        0xD800..=0xDBFF => low(s, next, x),
+        0xDC00..=0xDFFF => None,
+        _ => Some((x, next)),
     }
-    if between32(0xDC00, 0xDFFF, x) {
-        return None;
-    }
-    Some((x, next))
 }
 
 // The escapes of one byte; `next` is the place after it.
@@ -89,12 +78,12 @@ pub(crate) fn escape(s: &[u8], at: usize) -> Option<(u32, usize)>
     requires { at ≤ length s.now }
     ensures { ScanAt read_escape s.now at result }
 {
-    if at < s.len() {
-        let b = s[at];
-        if b == 0x75 {
-            return unicode(s, at + 1);
-        }
-        return short(b, at + 1);
+    if at >= s.len() {
+        return None;
     }
-    None
+    let b = s[at];
+    if b == 0x75 {
+        return unicode(s, at + 1);
+    }
+    short(b, at + 1)
 }

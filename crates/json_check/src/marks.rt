@@ -20,10 +20,7 @@ fn colon_next(s: &[u8], from: usize) -> bool
     ensures { result ≡ colon_next (ws (drop from s.now)) }
 {
     let at = skip_ws(s, from);
-    if at < s.len() {
-        return s[at] == 0x3A;
-    }
-    false
+    at < s.len() && s[at] == 0x3A
 }
 
 // The first mark from `from` on, if there is one: a brace outside strings, or a string that a colon follows.

@@ -37,12 +37,10 @@ fn pass(s: &[u8], from: usize) -> Search
         match next_mark(s, at) {
             Some(Mark::Name(p, next)) => {
                 let print = fingerprint(s, p);
-                let mut i = base;
-                while i < count {
+                for i in base..count {
                     if same_by_fingerprint(s, p, s, names[i], print, prints[i]) {
                         break 'pairs;
                     }
-                    i += 1;
                 }
                 names[count] = p;
                 prints[count] = print;
@@ -86,12 +84,10 @@ fn meets(s: &[u8], names: &[usize; 64], prints: &[u64; 64], top: usize, from: us
             Some(Mark::Name(p, next)) => {
                 if inner == 0 {
                     let print = fingerprint(s, p);
-                    let mut i = base;
-                    while i < count {
+                    for i in base..count {
                         if same_by_fingerprint(s, p, s, names[i], print, prints[i]) {
                             break 'pairs;
                         }
-                        i += 1;
                     }
                 }
                 at = next;

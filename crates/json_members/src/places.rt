@@ -19,25 +19,15 @@ pub struct Value {
 pub(crate) fn kind_by(b: u8) -> Kind
     ensures { result ≡ kind_by (value_lead b) }
 {
-    if b == 0x22 {
-        return Kind::String;
+    match b {
+        0x22 => Kind::String,
+        0x5B => Kind::Array,
+        0x7B => Kind::Object,
+        0x74 => Kind::True,
+        0x66 => Kind::False,
+        0x6E => Kind::Null,
+        _ => Kind::Number,
     }
-    if b == 0x5B {
-        return Kind::Array;
-    }
-    if b == 0x7B {
-        return Kind::Object;
-    }
-    if b == 0x74 {
-        return Kind::True;
-    }
-    if b == 0x66 {
-        return Kind::False;
-    }
-    if b == 0x6E {
-        return Kind::Null;
-    }
-    Kind::Number
 }
 
 // The place of a value that begins with the byte b and stands from f to e: a string is taken between its quotation marks.

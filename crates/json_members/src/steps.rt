@@ -61,13 +61,13 @@ fn inside(s: &[u8], before: usize, close: u8) -> Option<usize>
     ensures { result ≡ first_in close s.now (ws (drop (before + 1) s.now)) }
 {
     let p = skip_ws(s, before + 1);
-    if p < s.len() {
-        if s[p] == close {
-            return None;
-        }
-        return Some(p);
+    if p >= s.len() {
+        return None;
     }
-    None
+    if s[p] == close {
+        return None;
+    }
+    Some(p)
 }
 
 // What follows the comma after a value that ends at e, if there is one.
@@ -75,17 +75,17 @@ fn after_comma(s: &[u8], e: usize) -> Option<usize>
     ensures { result ≡ next_in s.now (ws (drop e s.now)) }
 {
     let at = skip_ws(s, e);
-    if at < s.len() {
-        if s[at] == 0x2C {
-            let p = skip_ws(s, at + 1);
-            if p < s.len() {
-                return Some(p);
-            }
-            return None;
-        }
+    if at >= s.len() {
         return None;
     }
-    None
+    if s[at] != 0x2C {
+        return None;
+    }
+    let p = skip_ws(s, at + 1);
+    if p >= s.len() {
+        return None;
+    }
+    Some(p)
 }
 
 // The value that stands from f to e, and what follows it.

@@ -35,29 +35,24 @@ pub fn bare(s: &[u8], at: usize, depth: usize) -> Option<usize>
     if at >= s.len() {
         return None;
     }
-    let b = s[at];
-    if b == 0x22 {
-        return string_end(s, at + 1);
+    match s[at] {
+        0x22 => string_end(s, at + 1),
+        0x5B => array(s, at + 1, depth),
+        0x7B => object(s, at + 1, depth),
+        0x74 => {
+            let rest = RUE;
+            word_end(s, at + 1, &rest)
+        }
+        0x66 => {
+            let rest = ALSE;
+            word_end(s, at + 1, &rest)
+        }
+        0x6E => {
+            let rest = ULL;
+            word_end(s, at + 1, &rest)
+        }
+        _ => number_end(s, at),
     }
-    if b == 0x5B {
-        return array(s, at + 1, depth);
-    }
-    if b == 0x7B {
-        return object(s, at + 1, depth);
-    }
-    if b == 0x74 {
-        let rest = RUE;
-        return word_end(s, at + 1, &rest);
-    }
-    if b == 0x66 {
-        let rest = ALSE;
-        return word_end(s, at + 1, &rest);
-    }
-    if b == 0x6E {
-        let rest = ULL;
-        return word_end(s, at + 1, &rest);
-    }
-    number_end(s, at)
 }
 
 // The place of the value after a name whose closing quotation mark is before q, without the white space around it: its first byte's, and the place after its last.

@@ -3,7 +3,6 @@ ghost use Rattle.std.specs.Prelude.{◌≡◌, ◌*◌, ◌≤◌, length};
 ghost use Rattle.json_string.specs.Strings.{same_text, text_is, mix, fingerprint_at};
 ghost use Rattle.json_string.specs.Steps.{OctetsEnd};
 
-use common::wide;
 use json_characters::{char_at, is_unescaped1, octets_of};
 
 // Whether strings stand at p in s and at q in t, and have the same code points. Rules out a prefix taken for the whole, and strings compared as
@@ -70,7 +69,7 @@ pub fn fingerprint(s: &[u8], p: usize) -> u64
     while at < s.len() {
         let b = s[at];
         if is_unescaped1(b) {
-            h = mixed(h, wide(b));
+            h = mixed(h, u32::from(b));
             at += 1;
         } else {
             if b == 0x22 {
@@ -92,10 +91,7 @@ pub fn same_by_fingerprint(s: &[u8], p: usize, t: &[u8], q: usize, f: u64, g: u6
     requires { (f ≡ fingerprint_at s.now p) × (g ≡ fingerprint_at t.now q) }
     ensures { result ≡ same_text s.now p t.now q }
 {
-    if f == g {
-        return same_text(s, p, t, q);
-    }
-    false
+    f == g && same_text(s, p, t, q)
 }
 
 // The place in w after the octets of the code point c, where they stand at `at`.
@@ -109,12 +105,10 @@ fn octets_end(w: &[u8], at: usize, c: u32) -> Option<usize>
     if w.len() - at < n {
         return None;
     }
-    let mut i = 0;
-    while i < n {
+    for i in 0..n {
         if w[at + i] != bytes[i] {
             return None;
         }
-        i += 1;
     }
     Some(at + n)
 }

@@ -1,16 +1,28 @@
 // Numbers (RFC 8259 section 6): number = [ minus ] int [ frac ] [ exp ].
-ghost use Rattle.std.specs.Prelude.{◌≡◌, ◌||◌, ◌≤◌, ◌<◌, eqb, length};
-ghost use Rattle.json_grammar_rules.specs.Bytes.{is_digit, is_sign};
+ghost use Rattle.std.specs.Prelude.{◌≡◌, ◌≤◌, ◌<◌, length};
+ghost use Rattle.json_grammar_rules.specs.Bytes.{is_digit, is_e, is_sign};
 ghost use Rattle.json_grammar_rules.specs.Reader.{optional};
 ghost use Rattle.json_tokens.specs.Tokens.{skip_to, MovesTo, DigitsEnd, IntEnds, FracEnds, ExpEnds, UnsignedEnds, number_end};
 
-use json_characters::between;
-
-// Whether b is x or y.
-fn either(x: u8, y: u8, b: u8) -> bool
-    ensures { result ≡ eqb b x || eqb b y }
+// DIGIT
+fn is_digit(b: u8) -> bool
+    ensures { result ≡ is_digit b }
 {
-    b == x || b == y
+    matches!(b, 0x30..=0x39)
+}
+
+// minus / plus
+fn is_sign(b: u8) -> bool
+    ensures { result ≡ is_sign b }
+{
+    b == 0x2D || b == 0x2B
+}
+
+// e
+fn is_e(b: u8) -> bool
+    ensures { result ≡ is_e b }
+{
+    b == 0x65 || b == 0x45
 }
 
 // *DIGIT: the place after the digits from `from` on.
@@ -18,12 +30,8 @@ fn skip_digits(s: &[u8], from: usize) -> usize
     ensures { result ≡ skip_to is_digit s.now from }
 {
     let mut at = from;
-    while at < s.len() {
-        if between(0x30, 0x39, s[at]) {
-            at += 1;
-        } else {
-            return at;
-        }
+    while at < s.len() && is_digit(s[at]) {
+        at += 1;
     }
     at
 }
@@ -35,7 +43,7 @@ fn digits_end(s: &[u8], at: usize) -> Option<usize>
     if at >= s.len() {
         return None;
     }
-    if between(0x30, 0x39, s[at]) {
+    if is_digit(s[at]) {
         return Some(skip_digits(s, at + 1));
     }
     None // no digit
@@ -48,14 +56,11 @@ fn int_end(s: &[u8], at: usize) -> Option<usize>
     if at >= s.len() {
         return None;
     }
-    let b = s[at];
-    if between(0x31, 0x39, b) {
-        return Some(skip_digits(s, at + 1));
+    match s[at] {
+        0x30 => Some(at + 1),
+        0x31..=0x39 => Some(skip_digits(s, at + 1)),
+        _ => None, // no number
     }
-    if b == 0x30 {
-        return Some(at + 1);
-    }
-    None // no number
 }
 
 // [ frac ], frac = decimal-point 1*DIGIT
@@ -79,7 +84,7 @@ fn skip_sign(s: &[u8], at: usize) -> usize
     if at >= s.len() {
         return at;
     }
-    if either(0x2D, 0x2B, s[at]) {
+    if is_sign(s[at]) {
         return at + 1;
     }
     at
@@ -93,7 +98,7 @@ fn exp_end(s: &[u8], at: usize) -> Option<usize>
     if at >= s.len() {
         return Some(at);
     }
-    if either(0x65, 0x45, s[at]) {
+    if is_e(s[at]) {
         return digits_end(s, skip_sign(s, at + 1));
     }
     Some(at)

@@ -7,13 +7,7 @@ ghost use Rattle.json_tokens.specs.Tokens.{skip_ws};
 fn is_ws(b: u8) -> bool
     ensures { result ≡ is_ws b }
 {
-    if b == 0x20 {
-        return true;
-    }
-    if b == 0x09 {
-        return true;
-    }
-    b == 0x0A || b == 0x0D
+    matches!(b, 0x20 | 0x09 | 0x0A | 0x0D)
 }
 
 // The place of the first byte from `from` on that is no white space, or the length; `from` where it is past the end.
@@ -22,12 +16,8 @@ pub fn skip_ws(s: &[u8], from: usize) -> usize
     ensures { result ≡ skip_ws s.now from }
 {
     let mut at = from;
-    while at < s.len() {
-        if is_ws(s[at]) {
-            at += 1;
-        } else {
-            return at;
-        }
+    while at < s.len() && is_ws(s[at]) {
+        at += 1;
     }
     at
 }

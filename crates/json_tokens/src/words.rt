@@ -8,17 +8,14 @@ ghost use Rattle.json_tokens.specs.Tokens.{word_end};
 pub fn word_end(s: &[u8], from: usize, word: &[u8]) -> Option<usize>
     ensures { result ≡ word_end word.now s.now from }
 {
-    let mut at = from;
-    let mut i: usize = 0;
-    while i < word.len() {
+    for i in 0..word.len() {
+        let at = from + i;
         if at >= s.len() {
             return None; // cut short
         }
         if s[at] != word[i] {
             return None;
         }
-        at += 1;
-        i += 1;
     }
-    Some(at)
+    Some(from + word.len())
 }

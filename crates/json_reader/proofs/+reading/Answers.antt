@@ -120,23 +120,23 @@ values::value-returns-in_err-e t c = rw c.from_residual.ensures (law.value_bad _
 pub values::bare-returns-then-at-s : goal.values::bare-returns-then-at-s
 values::bare-returns-then-at-s t c = bare_is _ (law.bare_out _ c.if-at-s.true)
 
-pub values::bare-returns-then-b-eq34 : goal.values::bare-returns-then-b-eq34
-values::bare-returns-then-b-eq34 t c = bare_is _ (law.bare_string _ c.if-at-s.false c.if-b-eq34.true c.string_end.ensures)
+pub values::bare-returns-in-34 : goal.values::bare-returns-in-34
+values::bare-returns-in-34 t c = bare_is _ (law.bare_string _ c.if-at-s.false c.in-34.is c.string_end.ensures)
 
-pub values::bare-returns-then-b-eq91 : goal.values::bare-returns-then-b-eq91
-values::bare-returns-then-b-eq91 t c = bare_is _ (law.bare_array _ c.if-at-s.false c.if-b-eq91.true c.array.ensures)
+pub values::bare-returns-in-91 : goal.values::bare-returns-in-91
+values::bare-returns-in-91 t c = bare_is _ (law.bare_array _ c.if-at-s.false c.in-91.is c.array.ensures)
 
-pub values::bare-returns-then-b-eq123 : goal.values::bare-returns-then-b-eq123
-values::bare-returns-then-b-eq123 t c = bare_is _ (law.bare_object _ c.if-at-s.false c.if-b-eq123.true c.object.ensures)
+pub values::bare-returns-in-123 : goal.values::bare-returns-in-123
+values::bare-returns-in-123 t c = bare_is _ (law.bare_object _ c.if-at-s.false c.in-123.is c.object.ensures)
 
-pub values::bare-returns-then-b-eq116 : goal.values::bare-returns-then-b-eq116
-values::bare-returns-then-b-eq116 t c = bare_is _ (law.bare_true _ c.if-at-s.false c.if-b-eq116.true c.word_end.ensures)
+pub values::bare-returns-in-116 : goal.values::bare-returns-in-116
+values::bare-returns-in-116 t c = bare_is _ (law.bare_true _ c.if-at-s.false c.in-116.is c.word_end.ensures)
 
-pub values::bare-returns-then-b-eq102 : goal.values::bare-returns-then-b-eq102
-values::bare-returns-then-b-eq102 t c = bare_is _ (law.bare_false _ c.if-at-s.false c.if-b-eq102.true c.word_end-then-b-eq102.ensures)
+pub values::bare-returns-in-102 : goal.values::bare-returns-in-102
+values::bare-returns-in-102 t c = bare_is _ (law.bare_false _ c.if-at-s.false c.in-102.is c.word_end-in-102.ensures)
 
-pub values::bare-returns-then-b-eq110 : goal.values::bare-returns-then-b-eq110
-values::bare-returns-then-b-eq110 t c = bare_is _ (law.bare_null _ c.if-at-s.false c.if-b-eq110.true c.word_end-then-b-eq110.ensures)
+pub values::bare-returns-in-110 : goal.values::bare-returns-in-110
+values::bare-returns-in-110 t c = bare_is _ (law.bare_null _ c.if-at-s.false c.in-110.is c.word_end-in-110.ensures)
 
-pub values::bare-returns : goal.values::bare-returns
-values::bare-returns t c = bare_is _ (law.bare_number _ c.if-at-s.false c.if-b-eq34.false c.if-b-eq91.false c.if-b-eq123.false c.if-b-eq116.false c.if-b-eq102.false c.if-b-eq110.false c.number_end.ensures)
+pub values::bare-returns-in_default : goal.values::bare-returns-in_default
+values::bare-returns-in_default t c = bare_is _ (law.bare_number _ c.if-at-s.false (λ e. omega arith) (λ e. omega arith) (λ e. omega arith) (λ e. omega arith) (λ e. omega arith) (λ e. omega arith) c.number_end.ensures)

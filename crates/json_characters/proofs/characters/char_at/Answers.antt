@@ -9,7 +9,7 @@ pub returns-then-at-s : goal.returns-then-at-s
 returns-then-at-s c = char_out _ _ c.if-at-s.true
 
 pub returns-then-is_unescaped1 : goal.returns-then-is_unescaped1
-returns-then-is_unescaped1 c = char_is _ _ _ (char_plain _ _ c.if-at-s.false _ (sym c.is_unescaped1.ensures ∙ c.if-is_unescaped1.true) c.wide.ensures.0)
+returns-then-is_unescaped1 c = char_is _ _ _ (char_plain _ _ c.if-at-s.false _ (sym c.is_unescaped1.ensures ∙ c.if-is_unescaped1.true) c.from.ensures)
 
 pub returns-then-b-eq92 : goal.returns-then-b-eq92
 returns-then-b-eq92 c = char_escape _ _ c.if-at-s.false _ c.if-b-eq92.true c.escape.ensures

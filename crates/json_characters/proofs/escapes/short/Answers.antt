@@ -1,5 +1,6 @@
 -- `short` meets its contract.
 use mathlib.Core.Path.{refl}
+use native.Mathlib.Omega.{arith}
 use Rattle.json_grammar_rules.specs.Reader.{escape_lead_of}
 use Rattle.json_characters.proofs.EscapeLaws.{short_is, short_none}
 use Rattle.json_characters.proofs.escapes.short.Goals as goal
@@ -37,4 +38,4 @@ unfolding escape_lead_of
 returns-in-116 c = short_is _ 0x74 0x09 _ c.in-116.is refl
 
 pub returns-in_default : goal.returns-in_default
-returns-in_default c = short_none _ _ c.requires c.in_default.in_default-own.rest.0.0.0.0.0.0.0.1 c.in_default.in_default-own.rest.0.0.0.0.0.0.1 c.in_default.in_default-own.rest.0.0.0.0.0.1 c.in_default.in_default-own.rest.0.0.0.0.1 c.in_default.in_default-own.rest.0.0.0.1 c.in_default.in_default-own.rest.0.0.1 c.in_default.in_default-own.rest.0.1 c.in_default.in_default-own.rest.1
+returns-in_default c = short_none _ _ c.requires (λ e. omega arith) (λ e. omega arith) (λ e. omega arith) (λ e. omega arith) (λ e. omega arith) (λ e. omega arith) (λ e. omega arith) (λ e. omega arith)

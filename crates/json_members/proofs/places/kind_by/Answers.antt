@@ -1,33 +1,34 @@
 -- `kind_by` meets its contract.
+use native.Mathlib.Omega.{arith}
 use Rattle.json_grammar_rules.specs.Reader.{value_lead}
 use Rattle.json_reader.specs.Reads.{kind_by}
 use Rattle.json_reader.specs.ValueLaws.{lead_number}
 use Rattle.json_members.proofs.places.kind_by.Goals as goal
 
-pub returns-then-b-eq34 : goal.returns-then-b-eq34
+pub returns-in-34 : goal.returns-in-34
 unfolding value_lead kind_by
-returns-then-b-eq34 c = rw c.if-b-eq34.true
+returns-in-34 c = rw c.in-34.is
 
-pub returns-then-b-eq91 : goal.returns-then-b-eq91
+pub returns-in-91 : goal.returns-in-91
 unfolding value_lead kind_by
-returns-then-b-eq91 c = rw c.if-b-eq91.true
+returns-in-91 c = rw c.in-91.is
 
-pub returns-then-b-eq123 : goal.returns-then-b-eq123
+pub returns-in-123 : goal.returns-in-123
 unfolding value_lead kind_by
-returns-then-b-eq123 c = rw c.if-b-eq123.true
+returns-in-123 c = rw c.in-123.is
 
-pub returns-then-b-eq116 : goal.returns-then-b-eq116
+pub returns-in-116 : goal.returns-in-116
 unfolding value_lead kind_by
-returns-then-b-eq116 c = rw c.if-b-eq116.true
+returns-in-116 c = rw c.in-116.is
 
-pub returns-then-b-eq102 : goal.returns-then-b-eq102
+pub returns-in-102 : goal.returns-in-102
 unfolding value_lead kind_by
-returns-then-b-eq102 c = rw c.if-b-eq102.true
+returns-in-102 c = rw c.in-102.is
 
-pub returns-then-b-eq110 : goal.returns-then-b-eq110
+pub returns-in-110 : goal.returns-in-110
 unfolding value_lead kind_by
-returns-then-b-eq110 c = rw c.if-b-eq110.true
+returns-in-110 c = rw c.in-110.is
 
-pub returns : goal.returns
+pub returns-in_default : goal.returns-in_default
 unfolding value_lead kind_by
-returns c = rw (lead_number _ c.if-b-eq34.false c.if-b-eq91.false c.if-b-eq123.false c.if-b-eq116.false c.if-b-eq102.false c.if-b-eq110.false)
+returns-in_default c = rw (lead_number c.args.b (λ e. omega arith) (λ e. omega arith) (λ e. omega arith) (λ e. omega arith) (λ e. omega arith) (λ e. omega arith))

@@ -1,7 +1,6 @@
 -- `fingerprint` meets its contract. The loop's invariant: mixing the rest of the string into what is mixed so far gives the fingerprint.
 use mathlib.Core.Path.{sym, ◌∙◌}
 use native.Mathlib.Omega.{arith}
-use Prim.Native.Nat.{◌-◌}
 use Rattle.json_characters.specs.CharacterLaws.{scanned, char_after}
 use Rattle.json_string.specs.TextLaws.{text_out, text_quote, text_wrong_lem, text_step, text_plain}
 use Rattle.json_string.proofs.TextPaths.{mixed_none, mixed_all, mixed_on}
@@ -9,7 +8,7 @@ use Rattle.json_string.proofs.compare.fingerprint.Goals as goal
 
 pub loop-at-preserved-then-is_unescaped1 : goal.loop-at-preserved-then-is_unescaped1
 loop-at-preserved-then-is_unescaped1 c =
-    mixed_on _ _ _ _ _ _ (text_plain _ _ c.loop-at-test.true _ (sym c.is_unescaped1.ensures ∙ c.if-is_unescaped1.true) c.wide.ensures.0) c.mixed-h.ensures
+    mixed_on _ _ _ _ _ _ (text_plain _ _ c.loop-at-test.true _ (sym c.is_unescaped1.ensures ∙ c.if-is_unescaped1.true) c.from.ensures) c.mixed-h.ensures
     ∙ c.loop-at.invariant
 
 pub returns-then-b-eq34 : goal.returns-then-b-eq34

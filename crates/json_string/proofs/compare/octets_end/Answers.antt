@@ -1,7 +1,6 @@
 -- `octets_end` meets its contract. The loop's invariant: the octets passed are those of the word.
 use mathlib.Core.Path.{sym, ◌∙◌}
 use native.Mathlib.Omega.{arith}
-use Prim.Native.Nat.{◌-◌}
 use Rattle.json_characters.specs.Octets.{octets_in_lem}
 use Rattle.json_string.proofs.OctetLaws.{passed_none, passed_next, octet_at, octets_short, octets_differ, octets_all}
 use Rattle.json_string.proofs.compare.octets_end.Goals as goal

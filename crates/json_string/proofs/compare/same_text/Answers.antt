@@ -1,6 +1,5 @@
 -- `same_text_lem` meets its contract. The loop's invariant: the rests of both strings compare as the strings do.
 use native.Mathlib.Omega.{arith}
-use Prim.Native.Nat.{◌-◌}
 use mathlib.Core.Path.{◌∙◌}
 use Rattle.json_characters.specs.CharacterLaws.{scanned, char_after}
 use Rattle.json_string.specs.TextLaws.{text_out, text_wrong_lem}

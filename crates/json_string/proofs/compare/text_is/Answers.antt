@@ -1,6 +1,5 @@
 -- `text_is` meets its contract. The loop's invariant: the rests of the string and of the word compare as both do.
 use native.Mathlib.Omega.{arith}
-use Prim.Native.Nat.{◌-◌}
 use mathlib.Core.Path.{refl, sym, ◌∙◌}
 use Rattle.json_characters.specs.CharacterLaws.{scanned, char_after, char_most, plain_octets}
 use Rattle.json_string.specs.TextLaws.{text_out, text_wrong_lem, text_step, text_plain}

@@ -2,7 +2,6 @@
 use mathlib.Core.Path.{refl, sym, ap, ◌∙◌}
 use native.Mathlib.Omega.{arith}
 use mathlib.Core.List.{[]}
-use Prim.Native.Nat.{◌-◌}
 use lib.ListN.{length}
 use Rattle.json_characters.specs.CharacterLaws.{scanned, char_after, char_most, plain_octets}
 use Rattle.json_string.specs.TextLaws.{text_out, text_wrong_lem, text_step, text_plain}

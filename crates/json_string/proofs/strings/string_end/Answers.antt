@@ -1,7 +1,6 @@
 -- `string_end` meets its contract. The loop's invariant: the rest of the string ends where the string does.
 use mathlib.Core.Path.{refl, sym, ◌∙◌}
 use native.Mathlib.Omega.{arith}
-use Prim.Native.Nat.{◌-◌}
 use Rattle.json_characters.specs.CharacterLaws.{scanned, char_after}
 use Rattle.json_string.specs.TextLaws.{text_out, text_wrong_lem, text_step, text_plain}
 use Rattle.json_string.proofs.TextPaths.{end_none, end_quote, end_on}

@@ -1,20 +1,18 @@
 -- `is_ws` meets its contract.
-use borrow.Author.Tests.{ne_eqb}
-use Rattle.json_grammar_rules.specs.Bytes.{is_ws}
+use Rattle.std.proofs.Common.{rules}
+use Rattle.std.proofs.lemmas.Grind.{common_steps}
+use native.Mathlib.Omega.{arith}
+use Rattle.json_tokens.proofs.SkipLaws.{ws_yes, ws_no}
 use Rattle.json_tokens.proofs.spaces.is_ws.Goals as goal
 
-pub returns-then-b-eq32 : goal.returns-then-b-eq32
-unfolding is_ws
-returns-then-b-eq32 c = rw c.if-b-eq32.true
+pub returns-in-32 : goal.returns-in-32
+returns-in-32 c = ws_yes _ (λ n m l. omega arith)
 
-pub returns-then-b-eq9 : goal.returns-then-b-eq9
-unfolding is_ws
-returns-then-b-eq9 c = rw c.if-b-eq9.true
+pub returns-in-32-2 : goal.returns-in-32-2
+returns-in-32-2 c = ws_yes _ (λ n m l. omega arith)
 
-pub returns-then-b-eq10 : goal.returns-then-b-eq10
-unfolding is_ws
-returns-then-b-eq10 c = rw c.if-b-eq10.true
+pub returns-in_default : goal.returns-in_default
+returns-in_default c = ws_no _ (λ e. omega arith) (λ e. omega arith) (λ e. omega arith) (λ e. omega arith)
 
-pub returns-else-b-eq10 : goal.returns-else-b-eq10
-unfolding is_ws
-returns-else-b-eq10 c = rw (ne_eqb _ 0x20 c.if-b-eq32.false, ne_eqb _ 0x09 c.if-b-eq9.false, ne_eqb _ 0x0A c.if-b-eq10.false)
+pub returns-in_default-2 : goal.returns-in_default-2
+returns-in_default-2 c = ws_no _ (λ e. grind (arith, common_steps)) (λ e. omega arith) (λ e. omega arith) (λ e. search rules)
