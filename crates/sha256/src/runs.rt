@@ -22,7 +22,7 @@ pub(crate) fn in_runs(n: usize) -> usize
 }
 
 impl Hasher<'_> {
-    // Adds the runs of m to the hash.
+    // The hash value after the runs of m. One function with `absorb_blocks`, over a closure that compresses a part, would be longer than both.
     pub(crate) fn absorb_runs(&mut self, m: &[u8])
         requires { length m.now % 512 ≡ 0 }
         ensures { self.new.value ≡ hash_value sha_256 self.old.value m.now (length m.now / 64) }

@@ -41,10 +41,11 @@ fn round_at(
     round::<ShortChains>(v, constants.at(t), schedules.word(t, l))
 }
 
-// All rounds of block l, two in a turn of the loop as in `sha256_compression`.
+// All rounds of block l, two in a turn of the loop as in `sha256_compression`; a loop of its own, since there later words are made on the way.
 fn all_rounds(value: [u32; 8], constants: &Constants, schedules: &Schedules, l: usize) -> [u32; 8]
     requires { l < 8 }
-    ensures { (b : List ℕ) → Woven sha_256 b schedules.now.words 512 → result ≡ rounds sha_256 value (schedule sha_256 (block_of sha_256 b l) 64) 64 }
+    ensures { (b : List ℕ) → Woven sha_256 b schedules.now.words 512
+        → result ≡ rounds sha_256 value (schedule sha_256 (block_of sha_256 b l) 64) 64 }
 {
     let mut v = value;
     for turn in 0..32 {
