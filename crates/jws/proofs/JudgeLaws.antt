@@ -7,7 +7,7 @@ use native.Mathlib.Nat.{sub-zero}
 use native.Mathlib.Omega.{arith}
 use lib.Dec.{ltb}
 use lib.ListN.{length, take, drop, length-take}
-use borrow.Author.Tests.{lt-ltb, le-ltb, ltb-false, eq-eqb, ne_eqb, not-true, not-false}
+use borrow.Author.Tests.{lt-ltb, le-ltb, ltb-false, eq-eqb, ne_eqb, not-false}
 use Rattle.common.specs.First.{◌when◌, first}
 use Rattle.common.proofs.FirstLaws.{first_within, first_after, all_pass, passed}
 use Rattle.common.specs.Laid.{part_from}
@@ -19,11 +19,9 @@ use Rattle.hmac.specs.HmacLaws.{length_HMACSHA256}
 use Rattle.json_rules.specs.Rules.{longest}
 use Rattle.keytable_rules.specs.Table.{bad_table}
 use Rattle.jose_rules.specs.declared.Choice.{Choice}
-use Rattle.jose_rules.specs.declared.Decision.{Decision}
-use Rattle.jose_rules.specs.declared.Decision.TheVariants.{Refused, Chosen}
 use Rattle.jose_rules.specs.Rules.{terms_of}
 use Rattle.jose_rules.specs.HeaderTests.{jose_tests}
-use Rattle.jose_rules.specs.Decision.{decision_with}
+use Rattle.jose_rules.specs.Decision.{Decision, Refused, Chosen, decision_with}
 use Rattle.jose_rules.proofs.DecisionLaws.{with_refused, with_chosen}
 use Rattle.jws_rules.specs.declared.Verified.{Verified}
 use Rattle.jws_rules.specs.Calls.{VerifyCall}
@@ -41,13 +39,6 @@ judged_refusal : {q : VerifyCall} {hb pb : List ℕ} {n m : ℕ} {r : Verified} 
 judged_refusal e z f = rw (e, f) (refusing z)
 
 -- RULES 1 TO 3
-
--- what `good` says of the table
-pub table_bad : (T : List ℕ) {r : Bool} → r ≡ not (bad_table T) → not r ≡ true → bad_table T ≡ true
-table_bad T {r} e n = not-false (bad_table T) (sym e ∙ not-true r n)
-
-pub table_good : (T : List ℕ) {r : Bool} → r ≡ not (bad_table T) → not r ≡ false → bad_table T ≡ false
-table_good T {r} e n = not-true (bad_table T) (sym e ∙ not-false r n)
 
 module _ (q : VerifyCall) {hb pb : List ℕ} {r : Verified} where
   pub refused_long : token_most < length q.token → r ≡ refusal_of 1 → Judged q hb pb (first (verify_tests q)) r

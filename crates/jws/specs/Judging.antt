@@ -3,8 +3,7 @@ use Rattle.std.specs.Prelude.{◌≡◌, cond, List, ℕ, length, take}
 use Rattle.common.specs.First.{Test, first}
 use Rattle.hmac.specs.Hmac.{HMACSHA256}
 use Rattle.jose_rules.specs.declared.Choice.{Choice}
-use Rattle.jose_rules.specs.declared.Decision.{Decision}
-use Rattle.jose_rules.specs.declared.Decision.TheVariants.{Refused, Chosen}
+use Rattle.jose_rules.specs.Decision.{Decision, Refused, Chosen}
 use Rattle.jws_rules.specs.declared.Verified.{Verified}
 use Rattle.jws_rules.specs.Calls.{VerifyCall}
 use Rattle.jws_rules.specs.Token.{header_of, payload_of, secret_of}

@@ -1,8 +1,8 @@
 // The rules of verifying, phase by phase: 1 to 3, 4 to 6, 7 to 14, 15. An accepted token's header and payload are left at the fronts of
 // the buffers; the caller clears them past the record's lengths.
-ghost use Rattle.std.specs.Prelude.{◌≡◌, false, ◌<◌, length};
+ghost use Rattle.std.specs.Prelude.{◌≡◌, ◌<◌, length};
 ghost use Rattle.common.specs.First.{first};
-ghost use Rattle.keytable_rules.specs.Table.{bad_table, keys};
+ghost use Rattle.keytable_rules.specs.Table.{keys};
 ghost use Rattle.jose_rules.specs.Decision.{decision_with};
 ghost use Rattle.jose_rules.specs.Rules.{terms_of};
 ghost use Rattle.jws_rules.specs.Calls.{verify_call};
@@ -15,10 +15,11 @@ use answers::{
     SIGNATURE_DIFFERS, TOKEN_TOO_LONG,
 };
 use jose::decide_with;
-use jose_rules::{Choice, Decision, Part};
+use jose_rules::{Choice, Part};
 use json_rules::LONGEST;
 use jws_rules::{Record, TOKEN_MOST, Verified};
 use jws_segments::{Cut, Opened, is_mac, open_segments, split};
+use keytable::KeyTable;
 
 // A refusal: its number, and a record of zeros.
 fn refusal(answer: u8) -> Verified
@@ -63,12 +64,12 @@ fn acceptance(opened: Opened, choice: Choice) -> Verified
 }
 
 // Rule 15: the signature is the MAC of the JWS Signing Input under the chosen key's secret.
-fn conclude(opened: Opened, choice: Choice, input: &[u8], table: &[u8]) -> Verified
-    requires { (bad_table table.now ≡ false) × (choice.key_index < length (keys table.now)) }
-    ensures { result ≡ concluded opened choice input.now table.now }
+fn conclude(opened: Opened, choice: Choice, input: &[u8], table: KeyTable) -> Verified
+    requires { choice.key_index < length (keys table.bytes.now) }
+    ensures { result ≡ concluded opened choice input.now table.entry.bytes.now }
 {
-    let key = choice.key_index;
-    let mac = hmac::hmac_sha256(keytable::secret(table, key), input);
+    let key = table.key(choice.key_index);
+    let mac = hmac::hmac_sha256(key.secret(), input);
     let signature = opened.signature;
     if is_mac(signature, &mac) {
         return acceptance(opened, choice);
@@ -77,13 +78,12 @@ fn conclude(opened: Opened, choice: Choice, input: &[u8], table: &[u8]) -> Verif
 }
 
 // Rules 7 to 15, of a decoded header.
-fn judge_header(opened: Opened, header: &[u8], input: &[u8], table: &[u8]) -> Verified
-    requires { bad_table table.now ≡ false }
-    ensures { result ≡ decided_as (decision_with header.now (terms_of table.now)) opened input.now table.now }
+fn judge_header(opened: Opened, header: &[u8], input: &[u8], table: KeyTable) -> Verified
+    ensures { result ≡ decided_as (decision_with header.now (terms_of table.entry.bytes.now)) opened input.now table.entry.bytes.now }
 {
     match decide_with(header, table) {
-        Decision::Refused(answer) => refusal(answer),
-        Decision::Chosen(choice) => conclude(opened, choice, input, table),
+        Err(refused) => refusal(refused.into()),
+        Ok(choice) => conclude(opened, choice, input, table),
     }
 }
 
@@ -120,12 +120,12 @@ fn judge_segments(
     token: &[u8],
     a: usize,
     b: usize,
-    table: &[u8],
+    table: KeyTable,
     header: &mut [u8],
     payload: &mut [u8],
 ) -> Verified
-    requires { (bad_table table.now ≡ false) × Places token.now a b }
-    ensures { JudgedBy from_segments (verify_call token.now table.now header.old payload.old) header.new payload.new result }
+    requires { Places token.now a b }
+    ensures { JudgedBy from_segments (verify_call token.now table.entry.bytes.now header.old payload.old) header.new payload.new result }
 {
     let opened = open_segments(
         &token[0..a],
@@ -150,9 +150,9 @@ pub(crate) fn judge(token: &[u8], table: &[u8], header: &mut [u8], payload: &mut
     if TOKEN_MOST < token.len() {
         return refusal(TOKEN_TOO_LONG);
     }
-    if !keytable_check::good(table) {
+    let Some(table) = KeyTable::new(table) else {
         return refusal(BAD_TABLE);
-    }
+    };
     let Cut::At(a, b) = split(token) else {
         return refusal(NOT_TWO_PERIODS);
     };

@@ -14,14 +14,12 @@ use Rattle.json_rules.specs.Tests.{length_test}
 use Rattle.json_rules.proofs.Rows.{answers, rows, spellings}
 use Rattle.keytable_rules.specs.Key.{Key}
 use Rattle.decimal_rules.specs.Integer.{integer_of, all_digits, after}
-use Rattle.jose_rules.specs.declared.Decision.{Decision}
-use Rattle.jose_rules.specs.declared.Decision.TheVariants.{Refused}
 use Rattle.common.specs.Ascii.{ascii}
 use Rattle.jose_rules.specs.Names.{alg, kid, typ, cty, crit, fmt, HS256}
 use Rattle.jose_rules.specs.Members.{strings_in}
 use Rattle.jose_rules.specs.Facts.{lookup, names_from, alg_fact, kid_fact, text_fact, crit_fact, fmt_fact, facts_of, missing_or_wrong, critical_broken}
 use Rattle.jose_rules.specs.HeaderTests.{jose_tests, header_choice}
-use Rattle.jose_rules.specs.Decision.{decision_by}
+use Rattle.jose_rules.specs.Decision.{Decision, Refused, decision_by}
 
 -- what a header decides with these keys, by rules 5 and 7 to 14
 abbrev pub decides : String → List Key → Decision

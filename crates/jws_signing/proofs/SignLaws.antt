@@ -13,8 +13,7 @@ use Rattle.base64url_rules.proofs.LengthLaws.{length_encode, encoded_length_lem}
 use Rattle.json_rules.specs.Rules.{longest}
 use Rattle.keytable_rules.specs.Table.{bad_table, keys}
 use Rattle.jose_rules.specs.declared.Choice.{Choice}
-use Rattle.jose_rules.specs.declared.Decision.TheVariants.{Refused, Chosen}
-use Rattle.jose_rules.specs.Decision.{deciding_tests, decision}
+use Rattle.jose_rules.specs.Decision.{Refused, Chosen, deciding_tests, decision}
 use Rattle.jose_rules.proofs.DecisionLaws.{refused, chosen_by}
 use Rattle.jws_rules.specs.Calls.{SignCall}
 use Rattle.jws_rules.specs.Outcomes.{unsigned, signed_as}

@@ -10,9 +10,9 @@ ghost use Rattle.jws_rules.specs.Token.{token_of, finished_length};
 ghost use Rattle.jws_rules.specs.Tests.{signed};
 ghost use Rattle.jws_signing.specs.Written.{Written, unsigned_result, finished};
 
-use answers::{BUFFER_TOO_SHORT, DONE, TOKEN_TOO_LONG};
-use jose_rules::Decision;
+use answers::{BAD_TABLE, BUFFER_TOO_SHORT, DONE, TOKEN_TOO_LONG};
 use jws_rules::{Signed, TOKEN_MOST};
+use keytable::KeyTable;
 
 // What a token has beside the segments of its header and payload: that of the MAC's 32 bytes, and two periods.
 const REST: usize = 45;
@@ -89,12 +89,14 @@ fn finish(secret: &[u8], header: &[u8], payload: &[u8], token: &mut [u8]) -> Sig
 pub(crate) fn make(header: &[u8], payload: &[u8], table: &[u8], token: &mut [u8]) -> Signed
     ensures { Written (signed (sign_call header.now payload.now table.now token.old)) token.old result token.new }
 {
-    let decision = jose::decide(header, table);
-    match decision {
-        Decision::Refused(n) => refusal(n),
-        Decision::Chosen(choice) => {
-            let index = choice.key_index;
-            finish(keytable::secret(table, index), header, payload, token)
+    let Some(table) = KeyTable::new(table) else {
+        return refusal(BAD_TABLE);
+    };
+    match jose::decide_by(header, table) {
+        Err(refused) => refusal(refused.into()),
+        Ok(choice) => {
+            let key = table.key(choice.key_index);
+            finish(key.secret(), header, payload, token)
         }
     }
 }
