@@ -4,15 +4,17 @@ use mathlib.Core.Bool.{Bool, true, false, cond, ◌&&◌, false≢true}
 use mathlib.Core.List.{List, [], ◌∷◌, ◌++◌}
 use Prim.Native.Nat.{ℕ, ◌+◌, ◌-◌, ◌*◌, ◌/◌, ◌%◌, ◌≤◌}
 use native.Mathlib.Omega.{arith}
-use lib.ListN.{length, get_or, take, drop, take-append-drop, length-drop}
+use lib.ListN.{length, get_or, take, drop, set, take-append-drop, length-drop}
 use lib.Seq.{take-add, length-take-le}
 use borrow.Rule.Slice.PartMut.{put_mid}
 use Rattle.std.specs.Prelude.{Some, None}
 use Rattle.common.specs.Buffer.{laid}
-use Rattle.common.specs.Laid.{part_from}
+use Rattle.common.specs.Laid.{part_from, six_stores, laid_stores}
 use Rattle.base64url_rules.specs.Base64url.{decode, alphabetic, unused_bits, strict}
 use Rattle.base64url_rules.proofs.GroupLaws.{strict_append}
-use Rattle.base64url_rules.proofs.Grouping.{decode_grouping, part_laid, then_rest}
+use Rattle.base64url_rules.proofs.Grouping.{decode_grouping, part_more, then_rest}
+use Rattle.base64url_rules.proofs.Listed.{as_entries}
+use Rattle.base64url_rules.proofs.Tables.{entries}
 use Rattle.base64url_rules.proofs.LengthLaws.{length_decode}
 use Rattle.base64url_words.specs.Words.{grouped}
 use Rattle.base64url_decoding.specs.Writing.{Decodes}
@@ -63,17 +65,20 @@ module _ (s out₀ out : List ℕ) (i : ℕ) (hs : i * 8 + 8 ≤ length s) (d : 
       let groups : length (take (i * 8) s) % 4 ≡ 0 = omega (arith, length-take-le (i * 8) s (omega arith)) in
       rw (end, take-add (i * 8) 8 s) (strict_append (take (i * 8) s) next groups ∙ rw (← d.answer))
 
-  pub one_more : (j : ℕ) {bytes new : List ℕ} → j ≡ 6 → Some bytes ≡ grouped next → new ≡ bytes
-      → Decodes (take ((i + 1) * 8) s) out₀ true (put_mid (i * 6) j out new)
-  one_more j {bytes} {new} k e f =
+  pub one_more : {bytes : List ℕ} → i * 6 + 6 ≤ length out₀ → Some bytes ≡ grouped next
+      → Decodes (take ((i + 1) * 8) s) out₀ true
+      (set (set (set (set (set (set out (i * 6) (get_or bytes 0 0)) (i * 6 + 1) (get_or bytes 1 0)) (i * 6 + 2) (get_or bytes 2 0)) (i * 6 + 3) (get_or bytes 3 0)) (i * 6 + 4) (get_or bytes 4 0)) (i * 6 + 5) (get_or bytes 5 0))
+  unfolding entries
+  one_more {bytes} room e =
       let g = some_group next e in
       let eight : length next ≡ 8 = length-take-le 8 (drop (i * 8) s) (rw (length-drop (i * 8) s) (omega arith)) in
-      let six : length new ≡ 6 = omega (arith, ap length f, ap length g.1, length_decode next) in
+      let six : length bytes ≡ 6 = omega (arith, ap length g.1, length_decode next) in
       record {
         answer = sym (strict_next ∙ g.0);
         bytes =
-            λ _. part_laid decode_grouping s out₀ (i * 8) (i * 6) (omega arith) (omega arith) (omega arith) 8 j ((i + 1) * 8) end (omega arith) (d.bytes refl)
-            (g.1 ∙ sym f);
+            λ _. six_stores out (i * 6) (get_or bytes 0 0) (get_or bytes 1 0) (get_or bytes 2 0) (get_or bytes 3 0) (get_or bytes 4 0) (get_or bytes 5 0)
+            ∙ part_more decode_grouping s out₀ (i * 8) (i * 6) (omega arith) (omega arith) (omega arith) 8 ((i + 1) * 8) end (omega arith) (d.bytes refl)
+            (g.1 ∙ sym (as_entries bytes 6 six));
       }
 
   pub refused : None ≡ grouped next → Decodes s out₀ false out
@@ -90,18 +95,22 @@ group_refused (a ∷ b ∷ []) h e = absurd (omega arith)
 group_refused (a ∷ b ∷ c ∷ []) h e = absurd (omega arith)
 group_refused (a ∷ b ∷ c ∷ d ∷ s) h e = front_refused (a ∷ b ∷ c ∷ d ∷ s) 4 refl (omega arith) (no_group (a ∷ b ∷ c ∷ d ∷ []) e)
 
-pub group_first : (s out : List ℕ) {bytes new : List ℕ} → 4 ≤ length s → Some bytes ≡ grouped (first_four s) → new ≡ bytes
-    → Decodes (take 4 s) out true (new ++ drop 3 out)
-group_first [] out h e f = absurd (omega arith)
-group_first (a ∷ []) out h e f = absurd (omega arith)
-group_first (a ∷ b ∷ []) out h e f = absurd (omega arith)
-group_first (a ∷ b ∷ c ∷ []) out h e f = absurd (omega arith)
-group_first (a ∷ b ∷ c ∷ d ∷ s) out h e f =
+pub group_first : (s out : List ℕ) {bytes : List ℕ} → 4 ≤ length s → 3 ≤ length out → Some bytes ≡ grouped (first_four s)
+    → Decodes (take 4 s) out true (set (set (set out 0 (get_or bytes 0 0)) 1 (get_or bytes 1 0)) 2 (get_or bytes 2 0))
+unfolding entries
+group_first [] out h k e = absurd (omega arith)
+group_first (a ∷ []) out h k e = absurd (omega arith)
+group_first (a ∷ b ∷ []) out h k e = absurd (omega arith)
+group_first (a ∷ b ∷ c ∷ []) out h k e = absurd (omega arith)
+group_first (a ∷ b ∷ c ∷ d ∷ s) out {bytes} h k e =
     let g = some_group (a ∷ b ∷ c ∷ d ∷ []) e in
-    record { answer = sym g.0; bytes = λ _. rw (f, ← g.1) (three (a ∷ b ∷ c ∷ d ∷ []) refl) }
-  where
-    three : (t : List ℕ) → length t ≡ 4 → decode t ++ drop 3 out ≡ laid (decode t) out
-    three t h = let n : length (decode t) ≡ 3 = omega (arith, length_decode t) in rw n
+    let three : length bytes ≡ 3 = omega (arith, ap length g.1, length_decode (a ∷ b ∷ c ∷ d ∷ [])) in
+    record {
+      answer = sym g.0;
+      bytes =
+          λ _. laid_stores [] out 0 refl (get_or bytes 0 0 ∷ get_or bytes 1 0 ∷ get_or bytes 2 0 ∷ []) k
+          ∙ ap (λ (l : List ℕ). laid l out) (as_entries bytes 3 three ∙ sym g.1);
+    }
 
 -- the first n characters, whole groups, and then the rest
 pub whole : (s out₀ out₁ out₂ : List ℕ) (n m : ℕ) {ok r : Bool} → n % 4 ≡ 0 → n ≤ length s → n / 4 * 3 ≡ m → ok ≡ true

@@ -19,7 +19,14 @@ fn decode_pairs<T: Table>(table: &T, text: &[u8], out: &mut [u8]) -> bool
         let Some(bytes) = two_groups(table, pair) else {
             return false;
         };
-        out[i * 6..i * 6 + 6].copy_from_slice(&bytes);
+        // One by one: a loop over six bytes would stay one on small processors.
+        let to = i * 6;
+        out[to] = bytes[0];
+        out[to + 1] = bytes[1];
+        out[to + 2] = bytes[2];
+        out[to + 3] = bytes[3];
+        out[to + 4] = bytes[4];
+        out[to + 5] = bytes[5];
     }
     true
 }
@@ -62,7 +69,9 @@ fn decode_last(values: &Values, text: &[u8], out: &mut [u8]) -> bool
     let Some(bytes) = group(values, *a, *b, *c, *d) else {
         return false;
     };
-    out[..3].copy_from_slice(&bytes);
+    out[0] = bytes[0];
+    out[1] = bytes[1];
+    out[2] = bytes[2];
     decode_rest(values, rest, &mut out[3..])
 }
 

@@ -49,11 +49,6 @@ module _ {f : List ℕ → List ℕ} {n m : ℕ} (g : Grouping f n m) (s out₀ 
       → sets out b vs ≡ laid (f (take end s)) out₀
   part_more k end {out} {vs} d room w v = rw (d, take-add a k s) (grown f (take a s) (take k (drop a s)) out₀ b (split _) size out vs w v room)
 
-  -- .. copied over the j numbers behind
-  pub part_laid : (k j end : ℕ) {out vs : List ℕ} → end ≡ a + k → j ≡ length vs → out ≡ laid (f (take a s)) out₀ → f (take k (drop a s)) ≡ vs
-      → put_mid b j out vs ≡ laid (f (take end s)) out₀
-  part_laid k j end {out} {vs} d l w v = rw (d, take-add a k s, split (take k (drop a s)), v, w, l) (laid_part (f (take a s)) out₀ b size vs)
-
   -- the rest, written into the part behind
   pub then_rest : (out₁ out₂ : List ℕ) → out₁ ≡ laid (f (take a s)) out₀ → out₂ ≡ laid (f (take (length s - a) (drop a s))) (take (length out₁ - b) (drop b out₁))
       → put_mid b (length out₁ - b) out₁ out₂ ≡ laid (f s) out₀

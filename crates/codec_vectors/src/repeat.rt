@@ -2,14 +2,13 @@
 ghost use Rattle.std.specs.Prelude.{◌≤◌};
 
 use crate::text;
-use sha256::{Constants, Hasher};
+use sha256::Hasher;
 
 fn sha256(count: usize, x: u8) -> [u8; 32]
     requires { count ≤ 1000000 }
 {
     let part = [x; 6400];
-    let constants = Constants::new();
-    let mut hasher = Hasher::new(&constants);
+    let mut hasher = Hasher::new();
     for _ in 0..count / 6400 {
         hasher.absorb(&part);
     }

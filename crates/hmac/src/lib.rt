@@ -6,7 +6,7 @@ ghost use Rattle.std.specs.Int.Bits.{bit_xor};
 ghost use Rattle.sha2_rules.specs.Hash.{SHA256};
 ghost use Rattle.hmac.specs.Hmac.{key_block, HMACSHA256};
 
-use sha256::{Constants, Hasher};
+use sha256::Hasher;
 
 // The key, hashed if it is longer than a block, and then zeros to a block.
 fn key_block(key: &[u8]) -> [u8; 64]
@@ -14,10 +14,10 @@ fn key_block(key: &[u8]) -> [u8; 64]
 {
     let mut block = [0u8; 64];
     if 64 < key.len() {
-        block[..32].copy_from_slice(&sha256::sha256(key));
+        common::copy_at(&mut block, 0, &sha256::sha256(key));
         return block;
     }
-    block[..key.len()].copy_from_slice(key);
+    common::copy_at(&mut block, 0, key);
     block
 }
 
@@ -33,10 +33,10 @@ fn xor_pad(block: [u8; 64], pad: u8) -> [u8; 64]
 }
 
 // The hash of one block and then m.
-fn hash_with_block(constants: &Constants, block: &[u8; 64], m: &[u8]) -> [u8; 32]
+fn hash_with_block(hasher: &mut Hasher, block: &[u8; 64], m: &[u8]) -> [u8; 32]
     ensures { result ≡ SHA256 (block.now ++ m.now) }
 {
-    let mut hasher = Hasher::new(constants);
+    hasher.restart();
     hasher.absorb_blocks(block);
     hasher.finish(64, m)
 }
@@ -47,8 +47,8 @@ fn hash_with_block(constants: &Constants, block: &[u8; 64], m: &[u8]) -> [u8; 32
 pub fn hmac_sha256(key: &[u8], m: &[u8]) -> [u8; 32]
     ensures { result ≡ HMACSHA256 key.now m.now }
 {
-    let constants = Constants::new();
+    let mut hasher = Hasher::new();
     let block = key_block(key);
-    let inner = hash_with_block(&constants, &xor_pad(block, 0x36), m);
-    hash_with_block(&constants, &xor_pad(block, 0x5c), &inner)
+    let inner = hash_with_block(&mut hasher, &xor_pad(block, 0x36), m);
+    hash_with_block(&mut hasher, &xor_pad(block, 0x5c), &inner)
 }

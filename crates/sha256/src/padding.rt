@@ -10,7 +10,6 @@ pub(crate) fn last_blocks(rest: &[u8], total: usize, end: usize) -> [u8; 128]
     ensures { take end result ≡ rest.now ++ padding sha_256 total }
 {
     let mut blocks = [0; 128];
-    // copied by `copy_at`: after two calls of `copy_from_slice` on parts of an array the bounds of the second weren't proved
     common::copy_at(&mut blocks, 0, rest);
     blocks[rest.len()] = 128;
     let bits = (total as u64) << 3;

@@ -21,7 +21,7 @@ pub(crate) fn in_runs(n: usize) -> usize
     if runs_pay() { n / RUN * RUN } else { 0 }
 }
 
-impl Hasher<'_> {
+impl Hasher {
     // The hash value after the runs of m. One function with `absorb_blocks`, over a closure that compresses a part, would be longer than both.
     pub(crate) fn absorb_runs(&mut self, m: &[u8])
         requires { length m.now % 512 ≡ 0 }
@@ -30,7 +30,7 @@ impl Hasher<'_> {
         let mut schedules = Schedules::new();
         let (runs, _) = m.as_chunks::<512>();
         for run in runs {
-            let next = compress_eight(self.value, self.constants, &mut schedules, run);
+            let next = compress_eight(self.value, &self.constants, &mut schedules, run);
             self.value = next;
         }
     }

@@ -10,4 +10,4 @@ returns c =
     let block = c.args.block.now in
     let l : length block ≡ 64 = omega arith in
     c.finish.ensures ∙ ap (λ (n : ℕ). hash_after sha_256 c.absorb_blocks.new.self.value n c.args.m.now) (sym l)
-    ∙ rw (c.absorb_blocks.ensures, c.new-hasher.ensures) (after_blocks sha_256 block c.args.m.now (omega arith) (omega arith))
+    ∙ rw (c.absorb_blocks.ensures, c.restart.ensures) (after_blocks sha_256 block c.args.m.now (omega arith) (omega arith))

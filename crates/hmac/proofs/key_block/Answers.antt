@@ -1,15 +1,16 @@
 -- `hmac::key_block` meets its contract.
-use Rattle.std.proofs.Common.{◌∙◌, length, replicate, refl, arith}
-use Rattle.std.proofs.lemmas.Slice.{put_mid-paste}
+use Rattle.std.proofs.Common.{◌∙◌, arith}
 use Rattle.sha2_rules.specs.Hash.{SHA256}
-use Rattle.hmac.proofs.KeyLaws.{short_key}
+use Rattle.hmac.proofs.KeyLaws.{short_key, long_key}
 use Rattle.hmac.proofs.key_block.Goals as goal
+
+pub copy_at-requires-2 : goal.copy_at-requires-2
+copy_at-requires-2 c = omega arith
+
+pub returns-then-key-gt64 : goal.returns-then-key-gt64
+returns-then-key-gt64 c =
+    c.copy_at.ensures ∙ long_key SHA256 64 c.args.key.now c.sha256.result c.sha256.ensures c.if-key-gt64.true
 
 pub returns : goal.returns
 returns c =
-    let key = c.args.key.now in
-    put_mid-paste 0 (length key) (replicate 64 0) _ key (length key) c.copy_from_slice-2.ensures.after refl refl ∙ short_key SHA256 64 key c.if-key-gt64.false
-
--- found by the check too; here a key that is too long is refused at this fact
-pub slice_bounds-block-end-2 : goal.slice_bounds-block-end-2
-slice_bounds-block-end-2 c = omega arith
+    c.copy_at-2.ensures ∙ short_key SHA256 64 c.args.key.now c.if-key-gt64.false

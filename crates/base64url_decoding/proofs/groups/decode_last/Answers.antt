@@ -9,5 +9,5 @@ returns-in_default-group c = not_strict (group_refused c.args.text.now (omega ar
 
 pub returns : goal.returns
 returns c =
-    let d = group_first c.args.text.now c.args.out.now (omega arith) (sym c.in-Some.is ∙ c.group.ensures) c.copy_from_slice.ensures.after in
+    let d = group_first c.args.text.now c.args.out.now (omega arith) (omega arith) (sym c.in-Some.is ∙ c.group.ensures) in
     whole c.args.text.now c.args.out.now _ c.decode_rest-2.new.out 4 3 refl (omega arith) refl refl d c.decode_rest-2.ensures

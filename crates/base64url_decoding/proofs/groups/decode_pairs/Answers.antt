@@ -18,5 +18,4 @@ returns-in_default g c =
 pub loop-i-preserved : goal.loop-i-preserved
 loop-i-preserved g c =
     let pair = chunk_at 8 _ c.loop-i.i c.args.text.now c.as_chunks.ensures.front (omega arith) in
-    one_more c.args.text.now c.args.out.now c.loop-i.out c.loop-i.i (omega arith) c.loop-i.invariant (c.loop-i.i * 6 + 6 - c.loop-i.i * 6) (omega arith)
-    (sym c.in-Some.is ∙ c.two_groups.ensures ∙ ap grouped pair) c.copy_from_slice.ensures.after
+    one_more c.args.text.now c.args.out.now c.loop-i.out c.loop-i.i (omega arith) c.loop-i.invariant (omega arith) (sym c.in-Some.is ∙ c.two_groups.ensures ∙ ap grouped pair)

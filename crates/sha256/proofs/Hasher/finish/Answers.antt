@@ -20,5 +20,5 @@ returns c =
     let m = c.args.m.now in
     let r = rest_is m c.as_chunks.ensures.back in
     c.digest.ensures
-    ∙ finished sha_256 (omega arith) c.args.self.value m _ _ c.last_blocks-blocks.result c.args.before c.requires.0 (rw (r, length_rest sha_256) at c.last_blocks-blocks.ensures) c.absorb.ensures
+    ∙ finished sha_256 (omega arith) c.args.self.now.value m _ _ c.last_blocks-blocks.result c.args.before c.requires.0 (rw (r, length_rest sha_256) at c.last_blocks-blocks.ensures) c.absorb.ensures
     (rw (r, length_rest sha_256) at c.absorb_blocks.ensures)

@@ -1,9 +1,9 @@
 -- `sha256::digest::digest` meets its contract.
-use Rattle.std.proofs.Common.{◌≡◌, ◌+◌, ◌-◌, ◌*◌, ◌++◌, List, ℕ, length, refl, ap, ap₂, ◌∙◌, arith, add-one, suc-mul}
-use Rattle.std.proofs.lemmas.Slice.{take-put_mid}
-use Rattle.std.proofs.lemmas.Grind.{common_steps}
+use Rattle.std.proofs.Common.{◌≡◌, ◌*◌, length, refl, ap, sym, ◌∙◌, arith, take_all}
+use Rattle.std.proofs.Math.Seq.{length-paste}
 use Rattle.common.specs.BigEndianLaws.{length_big_endian}
 use Rattle.sha2_rules.specs.Hash.{word_bytes}
+use Rattle.sha2_rules.proofs.ValueLaws.{one_word_bytes}
 use Rattle.sha256.proofs.Bytes.{bytes_of}
 use Rattle.sha256.proofs.digest.digest.Goals as goal
 
@@ -12,13 +12,16 @@ unfolding word_bytes
 loop-i-init c = record { size = omega arith; words = refl }
 
 pub loop-i-preserved : goal.loop-i-preserved
-unfolding word_bytes
 loop-i-preserved c =
-    let i = c.loop-i.i in
-    let d = c.loop-i.digest in
-    let e = c.copy_from_slice.ensures.after ∙ c.to_be_bytes.ensures ∙ bytes_of 4 _ in
-    let l : length c.copy_from_slice.new.self ≡ 4 = ap length e ∙ length_big_endian 4 _ in
+    let b = c.to_be_bytes.result in
+    let e = c.to_be_bytes.ensures ∙ bytes_of 4 _ in
+    let l : length b ≡ 4 = ap length e ∙ length_big_endian 4 _ in
     record {
-      size = grind (arith, common_steps);
-      words = rw (add-one, suc-mul) (take-put_mid (i * 4) (i * 4 + 4 - i * 4) d c.copy_from_slice.new.self (i * 4 + 4) (omega arith) (omega arith) ∙ ap₂ (λ (a b : List ℕ). a ++ b) c.loop-i.invariant.words e);
+      size = ap length c.copy_at.ensures ∙ length-paste c.loop-i.digest (c.loop-i.i * 4) b (length b) (omega arith) (omega arith) ∙ c.loop-i.invariant.size;
+      words = one_word_bytes 4 _ b c.loop-i.digest _ c.loop-i.i (omega arith) c.loop-i.invariant.words e c.copy_at.ensures;
     }
+
+pub returns : goal.returns
+returns c =
+    let e : c.loop-i.i ≡ 8 = omega arith in
+    sym (take_all 32 c.loop-i.digest (omega arith)) ∙ (rw e at c.loop-i.invariant.words)
