@@ -10,6 +10,7 @@ fn sha256(count: usize, x: u8) -> [u8; 32]
     let part = [x; 6400];
     let mut state = sha256::initial();
     for _ in 0..count / part.len() {
+        // Named first: laid straight into the array that is lent, the answer gets no generated proof.
         let next = sha256::absorb(state, &k, &part);
         state = next;
     }

@@ -125,7 +125,12 @@ fn judge_segments(
     if answer != DONE {
         return refusal(answer);
     }
-    judge_header(opened, &header[0..opened.header_length], &token[0..b], table)
+    judge_header(
+        opened,
+        &header[0..opened.header_length],
+        &token[0..b],
+        table,
+    )
 }
 
 // Rules 1 to 15: the first that refuses, or acceptance.
