@@ -5,7 +5,6 @@ ghost use Rattle.json_characters.specs.Octets.{octets_in};
 ghost use Rattle.json_characters.specs.Steps.{ScanAt, read_tails, FormAt};
 ghost use Rattle.json_characters.specs.Utf8.{tail};
 
-
 // The n octets of a form after its first, of which x has the bits; the second octet lies from lo to hi.
 fn tails(s: &[u8], from: usize, n: usize, lo: u8, hi: u8, x: u32) -> Option<(u32, usize)>
     requires { (from ≤ length s.now) × (n ≤ 3) × (0x80 ≤ lo) × (hi ≤ 0xBF) × (x < 32) }
@@ -79,7 +78,12 @@ pub fn octets_of(c: u32) -> Octets
     if c <= 0xFFFF {
         return Octets {
             count: 3,
-            bytes: [(0xE0 + c / 4096) as u8, tail_octet(c / 64), tail_octet(c), 0],
+            bytes: [
+                (0xE0 + c / 4096) as u8,
+                tail_octet(c / 64),
+                tail_octet(c),
+                0,
+            ],
         };
     }
     Octets {

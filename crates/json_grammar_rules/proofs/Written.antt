@@ -3,7 +3,6 @@ use Rattle.std.specs.Prelude.{◌≡◌, refl, Bool, true, List, [], ◌∷◌, 
 use Rattle.std.proofs.Common.{sym, ap, ◌∙◌, append_assoc, append-nil, arith, length-append, take_at}
 use Rattle.common.specs.Bytes.{Bytes}
 use Rattle.common.specs.BytesLaws.{bytes_append}
-use Rattle.common.specs.Bytes
 use Rattle.json_grammar_rules.specs.Bytes.{within, is_digit, is_digit19, is_hex, is_tail, all_hex}
 use Rattle.json_grammar_rules.specs.Grammar.{Many, none, more, Ws, Token, Utf8, utf8_1, utf8_2, utf8_E0, utf8_E1, utf8_ED, utf8_EE, utf8_F0, utf8_F1, utf8_F4}
 use Rattle.json_grammar_rules.specs.Grammar.{Short, quote, reverse_solidus, solidus, backspace, form_feed, line_feed, carriage_return, tab}

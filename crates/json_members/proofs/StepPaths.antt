@@ -6,10 +6,10 @@ use Prim.Native.Nat.{ℕ, ◌+◌, ◌-◌, ◌≤◌, ◌<◌}
 use native.Mathlib.Omega.{arith}
 use lib.ListN.{length, drop, get_or, length-drop, drop_of_length-le}
 use borrow.Author.Tests.{eq-eqb, ne_eqb}
-use Rattle.json_grammar_rules.specs.Value.{LValue, LItem, LMember, item, named, plain}
+use Rattle.json_grammar_rules.specs.Value.{LValue, LItem, LMember, named, plain}
 use Rattle.json_grammar_rules.specs.declared.Kind.{Kind}
 use Rattle.json_grammar_rules.specs.Places.{kind_of, margin, pos}
-use Rattle.json_grammar_rules.specs.Reader.{Got, got, then, over, expect, ws, placed_item, read_chars, read_value, value_lead}
+use Rattle.json_grammar_rules.specs.Reader.{Got, then, over, expect, ws, placed_item, read_chars, read_value, value_lead}
 use Rattle.json_grammar_rules.proofs.ReaderLaws.{expect_over}
 use Rattle.json_grammar_rules.specs.Levels.{read_member}
 use Rattle.json_grammar_rules.proofs.ByteLaws.{by_byte}
@@ -22,7 +22,6 @@ use Rattle.json_reader.specs.ValueLaws.{trimmed_kind, placed_at}
 use Rattle.json_reader.specs.ReadLaws.{bare_ends, span_between, span_none}
 use Rattle.json_rules.specs.declared.Place.{Place}
 use Rattle.json_members.specs.declared.steps.Item.{Item}
-use Rattle.json_members.specs.declared.steps.Entry.{Entry}
 use Rattle.json_rules.specs.Answers.{place}
 use Rattle.json_members.specs.Steps.{first_in, top_in, top_members, first_member, start_in, next_in, item_by, item_in, item_at, entry_by, entry_in, entry_at}
 

@@ -2,7 +2,6 @@
 ghost use Rattle.std.specs.Prelude.{◌≡◌};
 ghost use Rattle.json_tokens.specs.Tokens.{word_end};
 
-
 // The place after the bytes of `word`, which must stand at `from`.
 // Rules out a word that is cut short, and one with another letter in it.
 pub fn word_end(s: &[u8], from: usize, word: &[u8]) -> Option<usize>

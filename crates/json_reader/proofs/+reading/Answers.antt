@@ -1,6 +1,5 @@
 -- The readers that call one another meet their contracts.
 use mathlib.Core.Path.{sym, ◌∙◌}
-use Prim.Native.Nat.{◌-◌}
 use native.Mathlib.Omega.{arith}
 use Rattle.json_tokens.specs.TokenLaws.{skips}
 use Rattle.json_reader.specs.ReadLaws.{bare_is}

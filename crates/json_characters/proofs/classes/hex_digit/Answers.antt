@@ -1,5 +1,4 @@
 -- `hex_digit` meets its contract.
-use Prim.Native.Nat.{◌≤◌}
 use native.Mathlib.Omega.{arith}
 use Rattle.json_characters.proofs.ClassLaws.{digit_decimal, digit_capital, digit_small, digit_none}
 use Rattle.json_characters.proofs.classes.hex_digit.Goals as goal

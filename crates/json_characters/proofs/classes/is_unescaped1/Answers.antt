@@ -1,5 +1,4 @@
 -- `is_unescaped1` meets its contract.
-use Prim.Native.Nat.{◌≤◌}
 use native.Mathlib.Omega.{arith}
 use Rattle.json_characters.proofs.ClassLaws.{unescaped_1, unescaped_2, unescaped_3, unescaped_no}
 use Rattle.json_characters.proofs.classes.is_unescaped1.Goals as goal

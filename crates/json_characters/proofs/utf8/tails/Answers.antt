@@ -3,7 +3,7 @@ use mathlib.Core.Path.{◌≡◌}
 use native.Mathlib.Omega.{arith}
 use lib.Dec.{lit≤}
 use lib.ListN.{get_or}
-use Prim.Native.Nat.{◌+◌, ◌-◌, ◌≤◌}
+use Prim.Native.Nat.{◌+◌, ◌-◌}
 use Rattle.json_grammar_rules.proofs.ByteLaws.{within_is}
 use Rattle.json_characters.proofs.ClassLaws.{outside}
 use Rattle.json_characters.proofs.DigitLaws.{room_small, room_step, digits_more, digits_not, digits_out, digits_done}

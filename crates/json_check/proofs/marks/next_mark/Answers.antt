@@ -1,5 +1,4 @@
 -- `next_mark` meets its contract.
-use Prim.Native.Nat.{◌-◌}
 use native.Mathlib.Omega.{arith}
 use Rattle.json_string.specs.StringLaws.{stringed}
 use Rattle.json_check.proofs.MarkLaws as law

@@ -1,6 +1,5 @@
 -- `meets` meets its contract.
 use mathlib.Core.Path.{sym, ◌∙◌}
-use Prim.Native.Nat.{◌-◌}
 use native.Mathlib.Omega.{arith}
 use Rattle.json_check.proofs.MarkLaws.{name_told, opens_told, closes_told, none_told}
 use Rattle.json_check.proofs.StackLaws as stack

@@ -1,6 +1,5 @@
 -- `pass` meets its contract.
 use mathlib.Core.Path.{refl, sym, ◌∙◌}
-use Prim.Native.Nat.{◌-◌}
 use native.Mathlib.Omega.{arith}
 use lib.ListN.{length-set}
 use Rattle.json_check.proofs.MarkLaws.{name_told, opens_told, closes_told, none_told}

@@ -1,6 +1,5 @@
 -- `twice_from` meets its contract. The loop's invariant: what is right from the next pass's place on is right from the first.
 use mathlib.Core.Bool.{true, false}
-use Prim.Native.Nat.{◌-◌}
 use native.Mathlib.Omega.{arith}
 use Rattle.json_check.proofs.NameLaws as law
 use Rattle.json_check.proofs.names.twice_from.Goals as goal

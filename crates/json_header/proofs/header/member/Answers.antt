@@ -3,7 +3,6 @@ use mathlib.Core.Path.{refl, sym, ◌∙◌}
 use Rattle.std.proofs.lemmas.Result.{err_from_is_err_and}
 use Rattle.json_members.specs.StepLaws.{top_members_lem}
 use Rattle.json_header.proofs.HeaderLaws as law
-use Rattle.json_rules.specs.Shown.{shown}
 use Rattle.json_header.proofs.header.member.Goals as goal
 
 pub returns-in_err-check : goal.returns-in_err-check

@@ -1,7 +1,7 @@
 -- `is_digit` meets its contract.
 use mathlib.Core.Path.{sym}
 use native.Mathlib.Omega.{arith}
-use Rattle.json_grammar_rules.specs.Bytes.{within, is_digit}
+use Rattle.json_grammar_rules.specs.Bytes.{is_digit}
 use Rattle.json_grammar_rules.proofs.ByteLaws.{within_is, above, below}
 use Rattle.json_tokens.proofs.numbers.is_digit.Goals as goal
 
