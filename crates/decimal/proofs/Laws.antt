@@ -46,7 +46,7 @@ module _ (most m : ℕ) (s : List ℕ) (i : ℕ) (h : i < length s) where
   given b = cond ((b && all_digits rest) && leb (after (10 * m + (c - 48)) rest) most) (Some (after (10 * m + (c - 48)) rest)) None
 
   pub next : {d : ℕ} → Some d ≡ digit_of c → reach most m (drop i s) ≡ reach most (10 * m + d) (drop (i + 1) s)
-  unfolding reach after all_digits digit_of
+  unfolding reach after all_digits
   next {d} e = rw (drop-cons s i 0 h, add-one) (go (is_digit c) e)
     where
       go : (b : Bool) → Some d ≡ cond b (Some (c - 48)) None
@@ -56,7 +56,7 @@ module _ (most m : ℕ) (s : List ℕ) (i : ℕ) (h : i < length s) where
 
   -- .. and makes the number too great, ..
   pub over : {d : ℕ} → Some d ≡ digit_of c → (most - d) / 10 < m → reach most m (drop i s) ≡ None
-  unfolding reach after all_digits digit_of
+  unfolding reach after all_digits
   over {d} e k = rw (drop-cons s i 0 h) (go (is_digit c) e)
     where
       go : (b : Bool) → Some d ≡ cond b (Some (c - 48)) None → given b ≡ None
@@ -68,7 +68,7 @@ module _ (most m : ℕ) (s : List ℕ) (i : ℕ) (h : i < length s) where
 
   -- .. or is none
   pub no_digit : None ≡ digit_of c → reach most m (drop i s) ≡ None
-  unfolding reach after all_digits digit_of
+  unfolding reach after all_digits
   no_digit e = rw (drop-cons s i 0 h) (go (is_digit c) e)
     where
       go : (b : Bool) → None ≡ cond b (Some (c - 48)) None → given b ≡ None
@@ -77,7 +77,7 @@ module _ (most m : ℕ) (s : List ℕ) (i : ℕ) (h : i < length s) where
 
 -- a digit is at most 9
 pub digit_small : (c : ℕ) {d : ℕ} → Some d ≡ digit_of c → d ≤ 9
-unfolding digit_of is_digit within
+unfolding is_digit within
 digit_small c {d} e = go (leb 48 c) (leb c 57) refl e
   where
     go : (a b : Bool) → leb c 57 ≡ b → Some d ≡ cond (a && b) (Some (c - 48)) None → d ≤ 9

@@ -3,7 +3,7 @@ use Rattle.std.specs.Prelude.{cond, ◌&&◌, List, ℕ, ◌-◌, leb, Option, S
 use Rattle.common.specs.Ranges.{is_digit}
 use Rattle.decimal_rules.specs.Integer.{digits, number}
 
-unfoldable pub digit_of : ℕ → Option ℕ
+abbrev pub digit_of : ℕ → Option ℕ
 digit_of c = cond (is_digit c) (Some (c - 48)) None
 
 unfoldable pub magnitude_of : ℕ → List ℕ → Option ℕ

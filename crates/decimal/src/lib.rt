@@ -39,7 +39,7 @@ fn unsigned(text: &[u8], most: u64) -> Option<u64>
 }
 
 // The value of a digit.
-#[tactic(auto, using(common::specs::RangeLaws::within_is, common::specs::RangeLaws::below, common::specs::RangeLaws::above), unfolding(crate::specs::Magnitude::digit_of, common::specs::Ranges::is_digit))]
+#[tactic(auto, unfolding(common::specs::Ranges::is_digit, common::specs::Ranges::within))]
 fn digit(c: u8) -> Option<u64>
     ensures { result ≡ digit_of c }
 {

@@ -1,5 +1,6 @@
 // What a header decides with a key table: the rules on its known members (RFC 7515 section 4 with the house rules; answers 2, 5 and 7
-// to 14) as definitions and theorems, in specs/ and proofs/, and the types that they speak of. `jose_facts`, `jose_judging` and `jose` compute them.
+// to 14) as definitions and theorems, in specs/ and proofs/, and the types that they speak of. `jose_facts`, `jose_judging` and `jose`
+// compute them.
 #![tactic(auto)]
 
 ghost use Rattle.std.specs.Prelude.{◌≡◌};

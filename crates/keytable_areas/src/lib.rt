@@ -38,7 +38,8 @@ pub fn id_of(table: &[u8], i: usize) -> &[u8]
     area(table, entry_at(i))
 }
 
-// Whether two slices have the same bytes, eight at a time, since `==` looks at one after the other; the last eight may overlap those before them.
+// Whether two slices have the same bytes, eight at a time, since `==` looks at one after the other; the last eight may overlap those
+// before them.
 // Rules out slices that are only as long as one another, and one that is the beginning of the other.
 pub fn same(a: &[u8], b: &[u8]) -> bool
     ensures { Decides (a.now ≡ b.now) result }

@@ -11,6 +11,3 @@ overflow_add-result c = omega (arith, (entry _ c.args.self.table.in_order _ c.ar
 
 pub bounds-self-entry_at : goal.bounds-self-entry_at
 bounds-self-entry_at c = omega (arith, (entry _ c.args.self.table.in_order _ c.args.self.counted).within)
-
-pub returns : goal.returns
-returns c = rw c.entry_at.ensures
