@@ -63,38 +63,6 @@ pub fn number<T: Copy>(outcome: Result<T, Refusal>) -> u8
     }
 }
 
-pub const TOKEN_TOO_LONG: u8 = 1;
-
-pub const BAD_TABLE: u8 = 2;
-
-pub const NOT_TWO_PERIODS: u8 = 3;
-
-pub const NOT_BASE64URL: u8 = 4;
-
-pub const HEADER_TOO_LONG: u8 = 5;
-
-pub const BUFFER_TOO_SHORT: u8 = 6;
-
-pub const NOT_DERIVED: u8 = 7;
-
-pub const NAME_TWICE: u8 = 8;
-
-pub const WRONG_KIND: u8 = 9;
-
-pub const CRITICAL: u8 = 10;
-
-pub const WRONG_ALG: u8 = 11;
-
-pub const NO_KEY: u8 = 12;
-
-pub const ALG_NOT_ALLOWED: u8 = 13;
-
-pub const FORMAT_NOT_ALLOWED: u8 = 14;
-
-pub const SIGNATURE_DIFFERS: u8 = 15;
-
-pub const NO_SUCH_MEMBER: u8 = 16;
-
 // All of them, by their numbers. Rules out two names exchanged, and one number for two answers.
 pub fn all() -> [u8; 17]
     ensures { result ≡ 0 ∷ 1 ∷ 2 ∷ 3 ∷ 4 ∷ 5 ∷ 6 ∷ 7 ∷ 8 ∷ 9 ∷ 10 ∷ 11 ∷ 12 ∷ 13 ∷ 14 ∷ 15 ∷ 16 ∷ [] }

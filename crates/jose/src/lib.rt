@@ -44,13 +44,6 @@ pub fn decide(header: &[u8], table: &[u8]) -> Result<Choice, Refusal>
     let Some(table) = KeyTable::new(table) else {
         return Err(Refusal::BadTable);
     };
-    decide_by(header, table)
-}
-
-// Rules 5 and 7 to 14, with a table in order. Rules out that a header too long is read, and one of the greatest length refused for it.
-pub fn decide_by(header: &[u8], table: KeyTable) -> Result<Choice, Refusal>
-    ensures { decided result ≡ decision header.now table.entry.bytes.now }
-{
     if LONGEST < header.len() {
         return Err(Refusal::HeaderTooLong);
     }

@@ -1,15 +1,11 @@
 -- What is said of the member that a slot shows: that it is absent, wrong, or what the value says.
 use Rattle.std.specs.Prelude.{Some, None}
 use mathlib.Core.Path.{◌≡◌, refl, sym, ap, ◌∙◌}
-use mathlib.Core.Bool.{Bool, true, false, not}
 use mathlib.Core.List.{List}
 use mathlib.Core.Option.{Option, none}
 use Prim.Native.Nat.{ℕ}
 use Rattle.json_grammar_rules.specs.Value.{Value, string_v, number_v, true_v, false_v, null_v, array_v, object_v, LItem, plain}
-use denote.Enum.Bare.{sameb, same_true, same_false, differs_true, differs_false}
-use Rattle.std.proofs.Common.{rules}
 use Rattle.json_grammar_rules.specs.declared.Kind.{Kind}
-use Rattle.json_grammar_rules.specs.contracts.Kind.{the_type}
 use Rattle.json_grammar_rules.specs.Places.{kind_of}
 use Rattle.json_members.specs.declared.places.Value.{Value as Placed}
 use Rattle.json_members.specs.Slots.{plain_of, Shows}
@@ -17,21 +13,6 @@ use Rattle.json_members.specs.SlotLaws.{shown, not_shown, kind_no}
 use Rattle.jose_rules.specs.Members.{Meaning, string, strings, integer}
 use Rattle.jose_rules.specs.declared.Said.{Said}
 use Rattle.jose_rules.specs.Facts.{pick, said}
-
--- A KIND COMPARED
-
-module _ {k c : Kind} {b : Bool} where
-  pub kind_same : b ≡ sameb the_type k c → b ≡ true → k ≡ c
-  kind_same e y = same_true the_type (search rules) k c (sym e ∙ y)
-
-  pub kind_other : b ≡ sameb the_type k c → b ≡ false → k ≡ c → ⊥
-  kind_other e n = same_false the_type k c (sym e ∙ n)
-
-  pub kind_differs : b ≡ not (sameb the_type k c) → b ≡ true → k ≡ c → ⊥
-  kind_differs e y = differs_true the_type k c (sym e ∙ y)
-
-  pub kind_agrees : b ≡ not (sameb the_type k c) → b ≡ false → k ≡ c
-  kind_agrees e n = differs_false the_type (search rules) k c (sym e ∙ n)
 
 -- a value of another kind than c says nothing
 abbrev pub AsksFor : {A : Type 0} → Kind → Meaning A → Type 0

@@ -2,6 +2,7 @@
 ghost use Rattle.std.specs.Prelude.{◌≡◌, ◌<◌, length};
 ghost use Rattle.jose_facts.specs.Says.{ShownAt, CritFactIs, NamesAt, listed_after};
 
+use crate::kinds::differ;
 use crate::words::{FMT, is_word};
 use jose_rules::{Listed, Said};
 use json_members::{Kind, Value, first_element, item_at};
@@ -14,7 +15,7 @@ pub(crate) fn crit_of(text: &[u8], slot: Option<Value>, depth: usize) -> Said<Li
     let Some(value) = slot else {
         return Said::Absent;
     };
-    if value.kind != Kind::Array {
+    if differ(value.kind, Kind::Array) {
         return Said::Wrong;
     }
     match first_element(text, value.place.start) {
@@ -40,7 +41,7 @@ fn names_from(text: &[u8], from: usize, depth: usize) -> Said<Listed>
         let Some(item) = item_at(text, p, depth) else {
             return Said::Wrong; // no element is read
         };
-        if item.value.kind != Kind::String {
+        if differ(item.value.kind, Kind::String) {
             return Said::Wrong;
         }
         listed = after(listed, is_word(text, item.value.place.start, FMT));

@@ -2,6 +2,7 @@
 // that no longer speak of the text. The facts of a protected and of an unprotected header come from two texts.
 #![tactic(auto)]
 
+mod kinds; // kinds.rt: two kinds compared
 mod words; // words.rt: the words that are looked for in a text
 mod members; // members.rt: the known members, found in one walk over an object's members
 mod says; // says.rt: what each known member but `crit` says

@@ -4,6 +4,7 @@ ghost use Rattle.keytable_rules.specs.Table.{keys};
 ghost use Rattle.jose_rules.specs.Facts.{alg_fact, kid_fact, fmt_fact};
 ghost use Rattle.jose_facts.specs.Says.{ShownSomewhere, FactIs, TextFactIs, StringAt, KeyNamed};
 
+use crate::kinds::differ;
 use crate::words::{HS256, is_word};
 use decimal::parse;
 use jose_rules::{Algorithm, Said};
@@ -17,7 +18,7 @@ pub(crate) fn alg_of(text: &[u8], slot: Option<Value>) -> Said<Algorithm>
     let Some(value) = slot else {
         return Said::Absent;
     };
-    if value.kind != Kind::String {
+    if differ(value.kind, Kind::String) {
         return Said::Wrong;
     }
     if is_word(text, value.place.start, HS256) {
@@ -34,7 +35,7 @@ pub(crate) fn kid_of(text: &[u8], slot: Option<Value>, table: KeyTable) -> Said<
     let Some(value) = slot else {
         return Said::Absent;
     };
-    if value.kind != Kind::String {
+    if differ(value.kind, Kind::String) {
         return Said::Wrong;
     }
     Said::Is(named_key(text, value.place.start, table))
@@ -59,7 +60,7 @@ pub(crate) fn text_of(slot: Option<Value>) -> Said<()>
     let Some(value) = slot else {
         return Said::Absent;
     };
-    if value.kind != Kind::String {
+    if differ(value.kind, Kind::String) {
         return Said::Wrong;
     }
     Said::Is(())
@@ -72,7 +73,7 @@ pub(crate) fn fmt_of(text: &[u8], slot: Option<Value>) -> Said<i64>
     let Some(value) = slot else {
         return Said::Absent;
     };
-    if value.kind != Kind::Number {
+    if differ(value.kind, Kind::Number) {
         return Said::Wrong;
     }
     let start = value.place.start;

@@ -3,8 +3,7 @@
 // compute them.
 #![tactic(auto)]
 
-ghost use Rattle.std.specs.Prelude.{◌≡◌};
-ghost use Rattle.jose_rules.specs.Facts.{said_or, is_missing, is_wrong, is_there};
+mod asked; // asked.rt: what is asked of what a header says of a member
 
 // WHAT A HEADER SAYS of a known member, with no text and no place.
 #[derive(Clone, Copy)]
@@ -15,39 +14,6 @@ pub enum Said<T> {
     Wrong,
     // What it says.
     Is(T),
-}
-
-impl<T: Copy> Said<T> {
-    // What the one says, or the other where the one is absent. Rules out the other's for the one's, and the other's lost.
-    pub fn or(self, other: Said<T>) -> Said<T>
-        ensures { result ≡ said_or self other }
-    {
-        match self {
-            Said::Absent => other,
-            Said::Wrong | Said::Is(_) => self,
-        }
-    }
-
-    // Whether it says nothing. Rules out that a wrong kind says something, and that an absent member does.
-    pub fn is_missing(self) -> bool
-        ensures { result ≡ is_missing self }
-    {
-        !matches!(self, Said::Is(_))
-    }
-
-    // Whether the member is of the wrong kind. Rules out that an absent one is, and that one of the right kind is.
-    pub fn is_wrong(self) -> bool
-        ensures { result ≡ is_wrong self }
-    {
-        matches!(self, Said::Wrong)
-    }
-
-    // Whether there is such a member. Rules out that one of the wrong kind isn't there, and that an absent one is.
-    pub fn is_there(self) -> bool
-        ensures { result ≡ is_there self }
-    {
-        !matches!(self, Said::Absent)
-    }
 }
 
 // What `alg` says.

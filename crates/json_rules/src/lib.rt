@@ -2,8 +2,7 @@
 // The crates `json_check` and `json_header` compute them.
 #![tactic(auto)]
 
-ghost use Rattle.std.specs.Prelude.{◌≡◌};
-ghost use Rattle.json_rules.specs.Answers.{size_of};
+mod places; // places.rt: the size of a place
 
 // The greatest length of a header, and the greatest depth, in which the top object is 1.
 pub const LONGEST: usize = 4096;
@@ -15,16 +14,6 @@ pub const DEEPEST: usize = 16;
 pub struct Place {
     pub start: usize,
     pub end: usize,
-}
-
-impl Place {
-    // How many bytes a place has. Rules out one more for the byte past its end, and a difference that wraps where the end lies before the
-    // start.
-    pub fn size(self) -> usize
-        ensures { result ≡ size_of self }
-    {
-        self.end.saturating_sub(self.start)
-    }
 }
 
 // What the member reader shows: a member of the top object, by the kind of its value, as the place of its name and the place of its value.

@@ -25,8 +25,9 @@ const PAYLOAD_ROOM: usize = TOKEN_MOST / 4 * 3;
 
 fn print(rt: &impl Print, verified: Result<Record, Refusal>) -> io::Result<()> {
     match verified {
-        Ok(record) => println!(
-            rt; "accepted key={} fmt={} payload={}", record.choice.key_index, record.choice.format, record.payload_length
+        Ok(record) => println!(rt;
+            "accepted key={} fmt={} payload={}",
+            record.choice.key_index, record.choice.format, record.payload_length
         ),
         Err(refusal) => println!(rt; "refused {}", u8::from(refusal)),
     }

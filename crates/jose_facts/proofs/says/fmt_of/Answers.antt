@@ -6,7 +6,7 @@ use Rattle.json_rules.specs.Answers.{size_of}
 use Rattle.json_members.specs.Members.{part}
 use Rattle.jose_rules.specs.Members.{integer}
 use Rattle.jose_rules.specs.Facts.{fmt_fact}
-use Rattle.jose_facts.proofs.SlotFacts.{asks_number, kind_differs, kind_agrees}
+use Rattle.jose_facts.proofs.SlotFacts.{asks_number}
 use Rattle.jose_facts.proofs.SaysLaws.{absent_is, wrong_is, fmt_said_number, fmt_said_none, number_there}
 use Rattle.jose_facts.proofs.says.fmt_of.Goals as goal
 
@@ -19,20 +19,20 @@ pub returns-in_default : goal.returns-in_default
 unfolding fmt_fact
 returns-in_default c = absent_is (λ z. z) integer c.in_default.is
 
-pub returns-then-ne : goal.returns-then-ne
+pub returns-then-differ : goal.returns-then-differ
 unfolding fmt_fact
-returns-then-ne c = wrong_is (λ z. z) integer c.in-Some.is asks_number (kind_differs c.ne.ensures c.if-ne.true)
+returns-then-differ c = wrong_is (λ z. z) integer c.in-Some.is asks_number (c.differ.ensures.apart c.if-differ.true)
 
 pub slice_bounds-parse-end : goal.slice_bounds-parse-end
 slice_bounds-parse-end c =
-    let n = number_there c.in-Some.is c.requires (kind_agrees c.ne.ensures c.if-ne.false) in
+    let n = number_there c.in-Some.is c.requires (c.differ.ensures.alike c.if-differ.false) in
     omega (arith, n.0, n.1, c.size.ensures)
 
 pub returns-in-Some-parse : goal.returns-in-Some-parse
 returns-in-Some-parse c =
     let z : to_z w64 (of_z w64 c.in-Some-parse.number) ≡ c.in-Some-parse.number = search rules in
-    rw z (fmt_said_number c.in-Some.is (kind_agrees c.ne.ensures c.if-ne.false) (parsed _ _ c.size.ensures c.parse.ensures) c.in-Some-parse.is)
+    rw z (fmt_said_number c.in-Some.is (c.differ.ensures.alike c.if-differ.false) (parsed _ _ c.size.ensures c.parse.ensures) c.in-Some-parse.is)
 
 pub returns-in-None : goal.returns-in-None
 returns-in-None c =
-    fmt_said_none c.in-Some.is (kind_agrees c.ne.ensures c.if-ne.false) (parsed _ _ c.size.ensures c.parse.ensures) c.in-None.is
+    fmt_said_none c.in-Some.is (c.differ.ensures.alike c.if-differ.false) (parsed _ _ c.size.ensures c.parse.ensures) c.in-None.is
