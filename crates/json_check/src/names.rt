@@ -1,4 +1,5 @@
 // Names that stand twice in one object. Names are compared pair by pair, after their escapes are resolved; the first equal pair ends the search.
+// The loops over pairs, left by a label, are a form that docs/DECISIONS.md fixes.
 // Each pass over the text keeps the places of 64 names at most, so that each byte is read a bounded number of times, however deep it stands.
 ghost use Rattle.std.specs.Prelude.{◌≤◌, length};
 ghost use Rattle.json_check.specs.Twice.{Holds, Meets, Searched, TwiceFrom};
