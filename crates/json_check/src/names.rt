@@ -122,9 +122,10 @@ pub(crate) fn twice_from(s: &[u8], from: usize) -> bool
     requires { from ≤ length s.now }
     ensures { TwiceFrom s.now from result }
 {
-    let mut at = from;
+    // Two calls: with one the compiler puts the pass, with its arrays, into `check_text`, from which the readers run.
+    let mut found = pass(s, from);
     loop {
-        match pass(s, at) {
+        match found {
             Search::Twice => {
                 return true;
             }
@@ -132,7 +133,7 @@ pub(crate) fn twice_from(s: &[u8], from: usize) -> bool
                 return false;
             }
             Search::Unfinished(next) => {
-                at = next;
+                found = pass(s, next);
             }
         }
     }
