@@ -79,13 +79,14 @@ fn judge_segments(
     requires { Places token.now a b }
     ensures { JudgedBy from_segments (verify_call token.now table.entry.bytes.now header.old payload.old) header.new payload.new (verify_result result) }
 {
-    let Some(opened) = open_segments(
+    let segments = open_segments(
         &token[..a],
         &token[a + 1..b],
         &token[b + 1..],
         header,
         payload,
-    ) else {
+    );
+    let Some(opened) = segments.strict() else {
         return Err(Refusal::NotBase64url);
     };
     lengths_fit(opened, header.len(), payload.len())?;
