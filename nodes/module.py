@@ -25,7 +25,9 @@ LAYOUT = "e-m:e-p270:32:32-p271:32:32-p272:64:64-i64:64-i128:128-f80:128-n8:16:3
 TRIPLE = "x86_64-unknown-linux-gnu"
 # How a function touches each page of a large frame.
 PROBES = ' "probe-stack"="inline-asm" "stack-probe-size"="3072"'
-ATTRIBUTES = f'{{ nounwind{PROBES} "target-cpu"="x86-64" }}'
+# What is known of a function; that it be put into its callers or not is advice.
+PLAIN = f'{{ nounwind{PROBES} "target-cpu"="x86-64" }}'
+ATTRIBUTES = {PLAIN.replace("nounwind", advice + "nounwind") for advice in ("", "alwaysinline ", "noinline ")}
 POINTER = 8
 
 
@@ -122,7 +124,7 @@ FORMS = {
     }.items()
 }
 LABEL = re.compile(r"[\w.]+:(?: +; (?:preds = .*|No predecessors!))?")
-DEFINE = re.compile(rf"define (internal )?(?:noundef (?:zeroext )?)?({RESULT}) ({NAME})\((.*)\) #0 \{{")
+DEFINE = re.compile(rf"define (internal )?(?:noundef (?:zeroext )?)?({RESULT}) ({NAME})\((.*)\) #(\d) \{{")
 PARAMETER = re.compile(rf"({INT}|ptr) (?:noundef )?(?:zeroext )?(%a\d+)")
 ARGUMENT = re.compile(rf"({INT}|ptr) (?:zeroext )?({GIVEN})")
 EMPTY = re.compile(r"(@static\.\d+) = private unnamed_addr constant \[0 x i8\] zeroinitializer, align [1248]")
@@ -177,7 +179,7 @@ class Module:
 
     def heads(self, lines):
         """Reads what stands outside of functions, and gives the numbered lines of each function."""
-        body, current, seen, declared = {}, None, set(), {}
+        body, current, seen, declared, functions = {}, None, set(), {}, set()
         for number_, line in enumerate(lines, 1):
             if current is not None:
                 if line == "}":
@@ -185,7 +187,8 @@ class Module:
                 else:
                     body[current].append((number_, line))
             elif match := DEFINE.fullmatch(line):
-                internal, result, current, arguments = match.groups()
+                internal, result, current, arguments, attributes = match.groups()
+                functions.add(attributes)
                 body[current] = []
                 arguments = parts(PARAMETER, arguments, number_)
                 self.parameters[current] = [(name, (self.new(f"{current} {name}"), 0) if kind == "ptr" else None) for kind, name in arguments]
@@ -194,23 +197,24 @@ class Module:
                     if result != "void" and not re.fullmatch(INT, result):
                         raise Refused(f"line {number_}: C is given {result} by {current}")
                     self.exported[current] = (result, [kind for kind, _ in arguments])
-            elif match := re.fullmatch(r'target (datalayout|triple) = "(.*)"|attributes #0 = (.*)', line):
-                what = match[1] or "attributes"
-                expected = {"datalayout": LAYOUT, "triple": TRIPLE, "attributes": ATTRIBUTES}[what]
-                if (match[2] or match[3]) != expected:
-                    raise Refused(f"line {number_}: another {what} than the known one: {line}")
-                seen.add(what)
+            elif match := re.fullmatch(r'target (datalayout|triple) = "(.*)"', line):
+                if match[2] != {"datalayout": LAYOUT, "triple": TRIPLE}[match[1]]:
+                    raise Refused(f"line {number_}: another {match[1]} than the known one: {line}")
+                seen.add(match[1])
             elif match := EMPTY.fullmatch(line):
                 self.empty[match[1]] = (self.new(match[1]), 0)
             elif (match := re.fullmatch(r"(declare .*) #(\d)", line)) and match[1] in INTRINSICS:
                 declared[match[2]] = INTRINSICS[match[1]]
             elif match := re.fullmatch(r"attributes #(\d) = (.*)", line):
-                if declared.get(match[1]) != match[2]:
+                seen.add(match[1])
+                if not (match[1] in functions and match[2] in ATTRIBUTES) and declared.get(match[1]) != match[2]:
                     raise Refused(f"line {number_}: another attributes than the known ones: {line}")
             elif not OTHER.fullmatch(line):
                 raise Refused(f"line {number_}: a form that isn't known: {line}")
-        if missing := {"datalayout", "triple", "attributes"} - seen:
+        if missing := {"datalayout", "triple"} - seen:
             raise Refused(f"the module has no {' and no '.join(sorted(missing))}")
+        if missing := (functions | set(declared)) - seen:
+            raise Refused(f"the module has no attributes {', '.join(sorted(missing))}")
         return body
 
     def function(self, name, lines):
@@ -399,7 +403,7 @@ start:
   %r0 = load {{ ptr, i64 }}, ptr %a0, align 8
   ret {{ ptr, i64 }} %r0
 }}
-attributes #0 = {ATTRIBUTES}
+attributes #0 = {PLAIN}
 !1 = !{{}}
 """
 SLICE = """  %r0 = alloca [16 x i8], align 8
@@ -498,6 +502,8 @@ def self_test():
         ("another data layout", plain.replace("i64:64", "i64:32"), "another datalayout"),
         ("another triple", plain.replace(TRIPLE, "aarch64-unknown-linux-gnu"), "another triple"),
         ("other attributes", plain.replace("nounwind", "nounwind uwtable"), "another attributes"),
+        ("advice", plain.replace("nounwind", "alwaysinline nounwind"), None),
+        ("a function of no attributes", plain.replace("@read(ptr noundef %a0) #0", "@read(ptr noundef %a0) #1"), "no attributes 1"),
         ("a pair for C", plain.replace("internal { ptr", "{ ptr"), "C is given"),
         ("no layout", plain[plain.index("\n") + 1:], "no datalayout"),
         ("a flag of the module's", plain + '!llvm.module.flags = !{!1}\n', "a form that isn't known"),

@@ -46,6 +46,7 @@ pub(crate) fn form(s: &[u8], at: usize, b: u8) -> Option<(u32, usize)>
 }
 
 // The octets of a code point: the first `count` of `bytes`.
+// A buffer with its length beside, since the library has no heap.
 #[derive(Clone, Copy)]
 pub struct Octets {
     pub count: usize,

@@ -242,6 +242,12 @@ module _ {s : List ℕ} {a : List Kept} {top n from j k i p : ℕ} (mt : Meeting
 
 -- PASS BY PASS
 
+-- the places that are left to a search
+abbrev pub left : List ℕ → Search → ℕ
+left s Twice = 0
+left s Once = 0
+left s (Unfinished q) = suc (length s - q)
+
 module _ (s : List ℕ) (p : ℕ) {x : Search} (h : Searched s p x) where
   searched : {y : Search} → x ≡ y → Searched s p y
   searched e = subst (λ (z : Search). Searched s p z) e h
@@ -254,7 +260,17 @@ module _ (s : List ℕ) (p : ℕ) {x : Search} (h : Searched s p x) where
   unfolding Searched
   once e = searched e
 
-  -- a search that goes on at q
-  pub unfinished : {q : ℕ} → x ≡ Unfinished q → (p < q) × (q ≤ length s) × ((r : Bool) → TwiceFrom s q r → TwiceFrom s p r)
+  unfinished : {q : ℕ} → x ≡ Unfinished q → (p < q) × (q ≤ length s) × ((r : Bool) → TwiceFrom s q r → TwiceFrom s p r)
   unfolding Searched
   unfinished e = searched e
+
+  -- a search that goes on at q
+  module _ {q : ℕ} (e : x ≡ Unfinished q) where
+    pub within_text : q ≤ length s
+    within_text = (unfinished e).1
+
+    pub on : (y : Search) → Searched s q y → Searched s p y × (left s y < left s x)
+    unfolding Searched
+    on Twice k = ((unfinished e).2 true k, rw e (omega arith))
+    on Once k = ((unfinished e).2 false k, rw e (omega arith))
+    on (Unfinished z) k = ((omega (arith, (unfinished e).0, k.0), k.1, λ r f. (unfinished e).2 r (k.2 r f)), rw e (omega (arith, k.0, k.1)))

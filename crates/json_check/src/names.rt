@@ -1,4 +1,5 @@
 // Names that stand twice in one object. Names are compared pair by pair, after their escapes are resolved; the first equal pair ends the search.
+// The loops over pairs, left by a label, are a form that docs/DECISIONS.md fixes.
 // Each pass over the text keeps the places of 64 names at most, so that each byte is read a bounded number of times, however deep it stands.
 ghost use Rattle.std.specs.Prelude.{◌≡◌, ◌+◌, ◌-◌, ◌≤◌, ◌<◌, length, set};
 ghost use Rattle.json_check.specs.Stacks.{marked, base_around};
@@ -173,9 +174,10 @@ pub(crate) fn twice_from(s: &[u8], from: usize) -> bool
     requires { from ≤ length s.now }
     ensures { TwiceFrom s.now from result }
 {
-    let mut at = from;
+    // Two calls: with one the compiler puts the pass, with its arrays, into `check_text`, from which the readers run.
+    let mut found = pass(s, from);
     loop {
-        match pass(s, at) {
+        match found {
             Search::Twice => {
                 return true;
             }
@@ -183,7 +185,7 @@ pub(crate) fn twice_from(s: &[u8], from: usize) -> bool
                 return false;
             }
             Search::Unfinished(next) => {
-                at = next;
+                found = pass(s, next);
             }
         }
     }

@@ -17,6 +17,7 @@ pub struct Place {
 }
 
 // What the member reader shows: a member of the top object, by the kind of its value, as the place of its name and the place of its value.
+// A case for each kind is a form that docs/DECISIONS.md fixes.
 #[derive(Clone, Copy, Debug, PartialEq, Eq)]
 pub enum Member {
     String(Place, Place),

@@ -14,7 +14,8 @@ use Rattle.base64url_rules.proofs.LengthLaws.{length_decode}
 use Rattle.base64url_rules.specs.Outcome.{Decoded, Decoding, decoded_to, decoding}
 use Rattle.base64url_rules.proofs.OutcomeLaws.{Answered, written, faulty, short, judge, accepted}
 use Rattle.jws_segments.specs.declared.opening.Opened.{Opened}
-use Rattle.jws_segments.specs.Opening.{segment_of, decoded_out, signature_in, is_mac, parts_of, opened_of, Opening, opened_to, opening}
+use Rattle.jws_segments.specs.declared.opening.Segments.{Segments}
+use Rattle.jws_segments.specs.Opening.{segment_of, decoded_out, signature_in, is_mac, whole_of, segments_of, joined, strict_parts, Opening, opened_to, opening}
 
 -- ONE SEGMENT
 
@@ -57,33 +58,35 @@ compared z mac l = go (eqb (length (decode z)) 32) refl
 
 -- THE THREE SEGMENTS
 
--- what is opened, by the lengths of the segments that are strict, and the bytes of the third
-abbrev pub joined : Option ℕ → Option ℕ → Option ℕ → List ℕ → Option Opened
-joined (Some n) (Some m) (Some k) bytes = Some (record { header_length = n; payload_length = m; signature = then_some (eqb k 32) bytes })
-joined (Some n) (Some m) None bytes = None
-joined (Some n) None w bytes = None
-joined None v w bytes = None
-
-joined_is : (x y z : List ℕ) → joined (segment_of x) (segment_of y) (segment_of z) (decoded_out z (replicate 32 0)) ≡ opened_of x y z
-joined_is x y z = go (strict x) (strict y) (strict z) refl
+pub opening_is : (x y z h p : List ℕ) {hb pb bytes : List ℕ} {u v w : Option ℕ} {s : Option (Option (List ℕ))}
+    → (u ≡ segment_of x) × (hb ≡ decoded_out x h) → (v ≡ segment_of y) × (pb ≡ decoded_out y p) → (w ≡ segment_of z) × (bytes ≡ decoded_out z (replicate 32 0))
+    → s ≡ whole_of w bytes → opened_to (record { header = u; payload = v; signature = s }) hb pb ≡ opening x y z h p
+unfolding opening
+opening_is x y z h p (e, i) (f, j) (g, k) l = rw (e, f, i, j, l, g, k) (ap (λ (s : Option (Option (List ℕ))). opened_to (record { header = segment_of x; payload = segment_of y; signature = s }) (decoded_out x h) (decoded_out y p)) (go (strict z) refl))
   where
     signature : (t : Bool) → strict z ≡ true → eqb (length (decode z)) 32 ≡ t → then_some t (decoded_out z (replicate 32 0)) ≡ cond t (Some (decode z)) None
     signature true h e = ap Some (signature_bytes z h (eqb-true (length (decode z)) 32 e))
     signature false h e = refl
 
-    go : (a b c : Bool) → strict z ≡ c
-        → joined (cond a (Some (length (decode x))) None) (cond b (Some (length (decode y))) None) (cond c (Some (length (decode z))) None) (decoded_out z (replicate 32 0))
-        ≡ cond (a && (b && c)) (Some (parts_of x y z)) None
-    go true true true e = rw (signature (eqb (length (decode z)) 32) e refl)
-    go true true false e = refl
-    go true false c e = refl
-    go false b c e = refl
+    go : (c : Bool) → strict z ≡ c
+        → whole_of (cond c (Some (length (decode z))) None) (decoded_out z (replicate 32 0)) ≡ cond c (Some (signature_in z)) None
+    go true e = ap Some (signature (eqb (length (decode z)) 32) e refl)
+    go false e = refl
 
-pub opening_is : (x y z h p : List ℕ) {hb pb bytes : List ℕ} (u v w : Option ℕ)
-    → (u ≡ segment_of x) × (hb ≡ decoded_out x h) → (v ≡ segment_of y) × (pb ≡ decoded_out y p) → (w ≡ segment_of z) × (bytes ≡ decoded_out z (replicate 32 0))
-    → opened_to (joined u v w bytes) hb pb ≡ opening x y z h p
-unfolding opening
-opening_is x y z h p u v w (e, i) (f, j) (g, k) = rw (e, f, g, i, j, k) (ap (λ (o : Option Opened). opened_to o (decoded_out x h) (decoded_out y p)) (joined_is x y z))
+-- what is opened of a token: all three segments, if each is strict
+abbrev parts_of : List ℕ → List ℕ → List ℕ → Opened
+parts_of x y z = record { header_length = length (decode x); payload_length = length (decode y); signature = signature_in z }
+
+parts_are : (x y z : List ℕ) → strict_parts (segments_of x y z) ≡ cond (strict x && (strict y && strict z)) (Some (parts_of x y z)) None
+parts_are x y z = go (strict x) (strict y) (strict z)
+  where
+    go : (a b c : Bool)
+        → joined (cond a (Some (length (decode x))) None) (cond b (Some (length (decode y))) None) (cond c (Some (signature_in z)) None)
+        ≡ cond (a && (b && c)) (Some (parts_of x y z)) None
+    go true true true = refl
+    go true true false = refl
+    go true false c = refl
+    go false b c = refl
 
 -- o is what was opened, hb and pb are the buffers then, of hr and pr bytes: what a caller goes by
 pub record Opens (x y z : List ℕ) (hr pr : ℕ) (o : Opened) (hb pb : List ℕ) : Type 0 where
@@ -96,35 +99,38 @@ pub record Opens (x y z : List ℕ) (hr pr : ℕ) (o : Opened) (hb pb : List ℕ
   pub header_front : length (decode x) ≤ hr → take (length (decode x)) hb ≡ decode x
   pub payload_front : length (decode y) ≤ pr → take (length (decode y)) pb ≡ decode y
 
-pub opens : (x y z h p : List ℕ) {o : Opened} {hb pb : List ℕ} → opened_to (Some o) hb pb ≡ opening x y z h p → Opens x y z (length h) (length p) o hb pb
-unfolding opening
-opens x y z h p {o} {hb} {pb} e =
-    go (strict x && (strict y && strict z)) refl (ap (λ (q : Opening). q.gives) e) (ap (λ (q : Opening). q.header) e) (ap (λ (q : Opening). q.payload) e)
-  where
-    go : (t : Bool) → strict x && (strict y && strict z) ≡ t
-        → Some o ≡ cond t (Some (parts_of x y z)) None
-        → hb ≡ decoded_out x h → pb ≡ decoded_out y p → Opens x y z (length h) (length p) o hb pb
-    go true k e f g =
-        let a = both (strict x) (strict y && strict z) k in
-        let b = both (strict y) (strict z) a.1 in
-        let is : o ≡ parts_of x y z = cc in
-        record {
-          strict1 = a.0;
-          strict2 = b.0;
-          strict3 = b.1;
-          header = ap (λ (o : Opened). o.header_length) is;
-          payload = ap (λ (o : Opened). o.payload_length) is;
-          signature = ap (λ (o : Opened). o.signature) is;
-          header_front = λ l. rw f (decoded_front x h a.0 l);
-          payload_front = λ l. rw g (decoded_front y p b.0 l);
-        }
-    go false k e f g = cc
+module _ (x y z h p : List ℕ) {s : Segments} {hb pb : List ℕ} (e : opened_to s hb pb ≡ opening x y z h p) where
+  parts : strict_parts s ≡ cond (strict x && (strict y && strict z)) (Some (parts_of x y z)) None
+  unfolding opening
+  parts = ap (λ (q : Opening). strict_parts q.gives) e ∙ parts_are x y z
 
-pub not_opened : (x y z h p : List ℕ) {hb pb : List ℕ} → opened_to None hb pb ≡ opening x y z h p → strict x && (strict y && strict z) ≡ false
-unfolding opening
-not_opened x y z h p e = go (strict x && (strict y && strict z)) refl (ap (λ (q : Opening). q.gives) e)
-  where
-    go : (t : Bool) → strict x && (strict y && strict z) ≡ t
-        → None ≡ cond t (Some (parts_of x y z)) None → strict x && (strict y && strict z) ≡ false
-    go true k e = cc
-    go false k e = k
+  pub opens : {o : Opened} → Some o ≡ strict_parts s → Opens x y z (length h) (length p) o hb pb
+  unfolding opening
+  opens {o} i =
+      go (strict x && (strict y && strict z)) refl (i ∙ parts) (ap (λ (q : Opening). q.header) e) (ap (λ (q : Opening). q.payload) e)
+    where
+      go : (t : Bool) → strict x && (strict y && strict z) ≡ t
+          → Some o ≡ cond t (Some (parts_of x y z)) None
+          → hb ≡ decoded_out x h → pb ≡ decoded_out y p → Opens x y z (length h) (length p) o hb pb
+      go true k e f g =
+          let a = both (strict x) (strict y && strict z) k in
+          let b = both (strict y) (strict z) a.1 in
+          let is : o ≡ parts_of x y z = cc in
+          record {
+            strict1 = a.0;
+            strict2 = b.0;
+            strict3 = b.1;
+            header = ap (λ (o : Opened). o.header_length) is;
+            payload = ap (λ (o : Opened). o.payload_length) is;
+            signature = ap (λ (o : Opened). o.signature) is;
+            header_front = λ l. rw f (decoded_front x h a.0 l);
+            payload_front = λ l. rw g (decoded_front y p b.0 l);
+          }
+      go false k e f g = cc
+
+  pub not_opened : None ≡ strict_parts s → strict x && (strict y && strict z) ≡ false
+  not_opened i = go (strict x && (strict y && strict z)) refl (i ∙ parts)
+    where
+      go : (t : Bool) → strict x && (strict y && strict z) ≡ t → None ≡ cond t (Some (parts_of x y z)) None → strict x && (strict y && strict z) ≡ false
+      go true k e = cc
+      go false k e = k

@@ -2,9 +2,9 @@
 #![tactic(auto)]
 
 mod periods; // periods.rt: where a token's periods stand
-mod equal; // equal.rt: whether two MACs are equal
+mod equal; // equal.rt: whether a signature is a MAC
 mod opening; // opening.rt: a token's three segments decoded
 
 pub use equal::is_mac;
-pub use opening::{Opened, open_segments};
+pub use opening::{Opened, Segments, open_segments};
 pub use periods::split;

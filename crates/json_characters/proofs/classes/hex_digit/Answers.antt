@@ -1,25 +1,18 @@
 -- `hex_digit` meets its contract.
+use mathlib.Core.Path.{sym, ◌∙◌}
 use native.Mathlib.Omega.{arith}
-use Rattle.json_characters.proofs.ClassLaws.{digit_decimal, digit_capital, digit_small, digit_none}
+use Rattle.json_grammar_rules.proofs.ByteLaws.{within_true}
+use Rattle.json_characters.proofs.ClassLaws.{digit_decimal, digit_letter, digit_none}
 use Rattle.json_characters.proofs.classes.hex_digit.Goals as goal
 
-pub returns-in-48-to-57 : goal.returns-in-48-to-57
-returns-in-48-to-57 c = digit_decimal _ (omega arith) (omega arith) c.from.ensures
+pub returns-then-between : goal.returns-then-between
+returns-then-between c = digit_decimal _ (sym c.between.ensures ∙ c.if-between.true) c.from.ensures
 
-pub returns-in-65-to-70 : goal.returns-in-65-to-70
-returns-in-65-to-70 c = digit_capital _ (omega arith) (omega arith) c.from-in-65-to-70.ensures
+pub returns-then-between-2 : goal.returns-then-between-2
+returns-then-between-2 c = digit_letter _ (sym c.between.ensures ∙ c.if-between.false) (sym c.between-2.ensures ∙ c.if-between-2.true) c.from-then-between-2.ensures
 
-pub returns-in-97-to-102 : goal.returns-in-97-to-102
-returns-in-97-to-102 c = digit_small _ (omega arith) (omega arith) c.from-in-97-to-102.ensures
+pub returns : goal.returns
+returns c = digit_none _ (sym c.between.ensures ∙ c.if-between.false) (sym c.between-2.ensures ∙ c.if-between-2.false)
 
-pub returns-in_default : goal.returns-in_default
-returns-in_default c = digit_none _ (λ l. omega arith) (λ l. omega arith) (λ l. omega arith)
-
-pub returns-in_default-2 : goal.returns-in_default-2
-returns-in_default-2 c = digit_none _ (λ l. omega arith) (λ l. omega arith) (λ l. omega arith)
-
-pub returns-in_default-3 : goal.returns-in_default-3
-returns-in_default-3 c = digit_none _ (λ l. omega arith) (λ l. omega arith) (λ l. omega arith)
-
-pub returns-in_default-4 : goal.returns-in_default-4
-returns-in_default-4 c = digit_none _ (λ l. omega arith) (λ l. omega arith) (λ l. omega arith)
+pub overflow_sub-b : goal.overflow_sub-b
+overflow_sub-b c = (within_true 0x30 0x39 _ (sym c.between.ensures ∙ c.if-between.true)).0

@@ -1,19 +1,21 @@
--- `twice_from` meets its contract. The loop's invariant: what is right from the next pass's place on is right from the first.
-use mathlib.Core.Bool.{true, false}
-use native.Mathlib.Omega.{arith}
+-- `twice_from` meets its contract. The loop's invariant: what was found is right from the first place on.
 use Rattle.json_check.proofs.NameLaws as law
 use Rattle.json_check.proofs.names.twice_from.Goals as goal
 
+pub loop-found-init : goal.loop-found-init
+loop-found-init c = c.pass-found.ensures
+
 pub returns-in-Twice : goal.returns-in-Twice
-returns-in-Twice c = c.loop-next.invariant.1 true (law.twice _ _ c.pass.ensures c.in-Twice.is)
+returns-in-Twice c = law.twice _ _ c.loop-found.invariant c.in-Twice.is
 
 pub returns-in-Once : goal.returns-in-Once
-returns-in-Once c = c.loop-next.invariant.1 false (law.once _ _ c.pass.ensures c.in-Once.is)
+returns-in-Once c = law.once _ _ c.loop-found.invariant c.in-Once.is
 
-pub loop-next-smaller : goal.loop-next-smaller
-loop-next-smaller c = let u = law.unfinished _ _ c.pass.ensures c.in-Unfinished.is in omega (arith, u.0, u.1)
+pub pass-found-requires-in-Unfinished : goal.pass-found-requires-in-Unfinished
+pass-found-requires-in-Unfinished c = law.within_text _ _ c.loop-found.invariant c.in-Unfinished.is
 
-pub loop-next-preserved : goal.loop-next-preserved
-loop-next-preserved c =
-    let u = law.unfinished _ _ c.pass.ensures c.in-Unfinished.is in
-    (u.1, λ r h. c.loop-next.invariant.1 r (u.2 r h))
+pub loop-found-smaller : goal.loop-found-smaller
+loop-found-smaller c = (law.on _ _ c.loop-found.invariant c.in-Unfinished.is _ c.pass-found-in-Unfinished.ensures).1
+
+pub loop-found-preserved : goal.loop-found-preserved
+loop-found-preserved c = (law.on _ _ c.loop-found.invariant c.in-Unfinished.is _ c.pass-found-in-Unfinished.ensures).0
