@@ -5,16 +5,18 @@ use mathlib.Core.List.{List, [], ◌∷◌}
 use Prim.Native.Nat.{ℕ, suc, ◌+◌, ◌-◌, ◌≤◌, ◌<◌}
 use native.Mathlib.Omega.{arith}
 use native.Mathlib.Numerals.{add-one, sub-one}
-use lib.ListN.{length, drop, get_or, set}
+use lib.ListN.{length, drop, set}
 use Rattle.json_grammar_rules.specs.Value.{among}
 use Rattle.json_grammar_rules.specs.Scan.{opens, closes, marks, around, beyond, search, every, no_more}
 use Rattle.json_grammar_rules.proofs.ScanLaws.{search_parts}
 use Rattle.json_string.specs.Strings.{same_text, fingerprint_at}
+use Rattle.json_check.specs.declared.names.Kept.{Kept}
 use Rattle.json_check.specs.declared.names.Search.{Search}
 use Rattle.json_check.specs.declared.names.Search.TheVariants.{Twice, Once, Unfinished}
 use Rattle.json_check.specs.Marks.{Shows, NameShown, NoMarks}
+use Rattle.json_check.specs.Stacks.{place_at, marked, base_around}
 use Rattle.json_check.specs.Twice.{Finds, none, Held, outermost, Holds, Meets, TwiceFrom, Searched}
-use Rattle.json_check.proofs.StackLaws.{held_names, held_low, held_name, held_opens, held_bare, held_closes, Without, found}
+use Rattle.json_check.proofs.StackLaws.{held_names, held_low, held_name, held_opens, held_closes, Without, found}
 
 -- WHAT THE SEARCH FINDS, by the next mark
 
@@ -63,24 +65,16 @@ module _ {s : List ℕ} {p : ℕ} {b : List (List ℕ)} {o : List (List (List �
 -- A PASS
 
 -- the pass from `from` on came to p, and holds names of the objects that are open there
-pub record Filling (s : List ℕ) (from : ℕ) (a m : List ℕ) (j k p : ℕ) : Type 0 where
+pub record Filling (s : List ℕ) (from : ℕ) (a : List Kept) (j k p : ℕ) : Type 0 where
   pub low : from + k ≤ p
   pub high : p ≤ length s
-  pub holds : Holds s a m j k
+  pub holds : Holds s a j k
   pub agrees : (r : Bool) → Finds every s p holds.inner holds.outer r → TwiceFrom s from r
 
--- it is full: k names are as many as there is room for
-module _ {s a m : List ℕ} {j k n : ℕ} (e : k ≡ n) where
-  pub full : Holds s a m j k → Holds s a m j n
-  full h = subst (λ (i : ℕ). Holds s a m j i) e h
+pub filling_start : {s : List ℕ} {from : ℕ} (a : List Kept) → from ≤ length s → Filling s from a 0 0 from
+filling_start a h = record { low = omega arith; high = h; holds = record { inner = []; outer = []; held = outermost none }; agrees = λ r f. f }
 
-  pub filled : {from p : ℕ} → Filling s from a m j k p → Filling s from a m j n p
-  filled {from} {p} h = subst (λ (i : ℕ). Filling s from a m j i p) e h
-
-pub filling_start : {s : List ℕ} {from : ℕ} (a m : List ℕ) → from ≤ length s → Filling s from a m 0 0 from
-filling_start a m h = record { low = omega arith; high = h; holds = record { inner = []; outer = []; held = outermost none }; agrees = λ r f. f }
-
-module _ {s : List ℕ} {from : ℕ} {a m : List ℕ} {j k p : ℕ} (fl : Filling s from a m j k p) where
+module _ {s : List ℕ} {from : ℕ} {a : List Kept} {j k p : ℕ} (fl : Filling s from a j k p) where
   abbrev b : List (List ℕ)
   b = fl.holds.inner
 
@@ -88,20 +82,20 @@ module _ {s : List ℕ} {from : ℕ} {a m : List ℕ} {j k p : ℕ} (fl : Fillin
   o = fl.holds.outer
 
   module _ {q e : ℕ} (h : NameShown s p q e) where
-    pub filling_found : (i : ℕ) → j ≤ i → i < k → same_text s q s (get_or a i 0) ≡ true → Searched s from Twice
+    pub filling_found : (i : ℕ) → j ≤ i → i < k → same_text s q s (place_at a i) ≡ true → Searched s from Twice
     unfolding Searched
     filling_found i u l c = fl.agrees true (finds_known b o h (found (held_names fl.holds.held) i q u l h.text h.stands c))
 
-    pub filling_name : (x : ℕ) → Without s a m j k q → x ≡ fingerprint_at s q → k < length a → k < length m → Filling s from (set a k q) (set m k x) j (k + 1) e
-    filling_name x w f u v = record {
+    pub filling_name : (x : ℕ) → Without s a j k q → x ≡ fingerprint_at s q → k < length a → Filling s from (set a k (record { place = q; print = x })) j (k + 1) e
+    filling_name x w f u = record {
       low = omega (arith, fl.low, h.shows.later);
       high = h.shows.high;
-      holds = record { inner = h.text ∷ b; outer = o; held = held_name fl.holds.held q x h.text h.stands f u v };
+      holds = record { inner = h.text ∷ b; outer = o; held = held_name fl.holds.held (record { place = q; print = x }) h.text h.stands f u };
       agrees = λ r z. fl.agrees r (finds_new b o h (w.is h.text b (held_names fl.holds.held) h.stands) z);
     }
 
   module _ {e : ℕ} where
-    pub filling_opens : Shows s p e (opens ∷ []) → k < length a → Filling s from (set a k j) m (k + 1) (k + 1) e
+    pub filling_opens : Shows s p e (opens ∷ []) → k < length a → Filling s from (marked a k j) (k + 1) (k + 1) e
     filling_opens h u = record {
       low = omega (arith, fl.low, h.later);
       high = h.high;
@@ -109,19 +103,11 @@ module _ {s : List ℕ} {from : ℕ} {a m : List ℕ} {j k p : ℕ} (fl : Fillin
       agrees = λ r z. fl.agrees r (finds_opens b o h z);
     }
 
-    pub filling_bare : Shows s p e (closes ∷ []) → j ≡ 0 → Filling s from a m j 0 e
-    filling_bare h z = record {
-      low = omega (arith, fl.low, h.later);
-      high = h.high;
-      holds = record { inner = around o; outer = beyond o; held = held_bare fl.holds.held z };
-      agrees = λ r f. fl.agrees r (finds_closes b o h f);
-    }
-
-    pub filling_closes : Shows s p e (closes ∷ []) → (j ≡ 0 → ⊥) → Filling s from a m (get_or a (j - 1) 0) (j - 1) e
-    filling_closes h z = record {
+    pub filling_closes : Shows s p e (closes ∷ []) → Filling s from a (base_around a j) (j - 1) e
+    filling_closes h = record {
       low = omega (arith, fl.low, h.later, held_low fl.holds);
       high = h.high;
-      holds = record { inner = around o; outer = beyond o; held = held_closes fl.holds.held z };
+      holds = record { inner = around o; outer = beyond o; held = held_closes fl.holds.held };
       agrees = λ r f. fl.agrees r (finds_closes b o h f);
     }
 
@@ -130,7 +116,7 @@ module _ {s : List ℕ} {from : ℕ} {a m : List ℕ} {j k p : ℕ} (fl : Fillin
   filling_last h = fl.agrees false (finds_none b o h)
 
   -- no more room
-  module _ {t : Bool} (h : Meets s a m j k p t) where
+  module _ {t : Bool} (h : Meets s a j k p t) where
     met : {u : Bool} → t ≡ u → Finds no_more s p b o u
     met e = subst (λ (z : Bool). Finds no_more s p b o z) e (h.is b o fl.holds.held)
 
@@ -166,34 +152,34 @@ module _ {b : List (List ℕ)} {o : List (List (List ℕ))} where
   hidden_held (deeper h) z = absurd (omega arith)
 
 -- what is found from p on, with c and d, is what is found from `from` on, with b and o
-pub record Met (s a m : List ℕ) (from j k i p : ℕ) (b : List (List ℕ)) (o : List (List (List ℕ))) : Type 0 where
-  pub holds : Holds s a m j k
+pub record Met (s : List ℕ) (a : List Kept) (from j k i p : ℕ) (b : List (List ℕ)) (o : List (List (List ℕ))) : Type 0 where
+  pub holds : Holds s a j k
   pub c : List (List ℕ)
   pub d : List (List (List ℕ))
   pub hidden : Hidden holds.inner holds.outer i c d
   pub agrees : (r : Bool) → Finds no_more s p c d r → Finds no_more s from b o r
 
-pub record Meeting (s a m : List ℕ) (top n from j k i p : ℕ) : Type 0 where
+pub record Meeting (s : List ℕ) (a : List Kept) (top n from j k i p : ℕ) : Type 0 where
   pub low : i ≤ p
   pub high : p ≤ length s
-  pub is : (b : List (List ℕ)) (o : List (List (List ℕ))) → Held s a m top n b o → Met s a m from j k i p b o
+  pub is : (b : List (List ℕ)) (o : List (List (List ℕ))) → Held s a top n b o → Met s a from j k i p b o
 
-pub meeting_start : {s a m : List ℕ} (top n : ℕ) {from : ℕ} → from ≤ length s → Meeting s a m top n from top n 0 from
+pub meeting_start : {s : List ℕ} {a : List Kept} (top n : ℕ) {from : ℕ} → from ≤ length s → Meeting s a top n from top n 0 from
 meeting_start top n h = record {
   low = omega arith;
   high = h;
   is = λ b o y. record { holds = record { inner = b; outer = o; held = y }; c = b; d = o; hidden = plain; agrees = λ r f. f };
 }
 
-module _ {s a m : List ℕ} {top n from j k i p : ℕ} (mt : Meeting s a m top n from j k i p) where
-  pub meeting_holds : Holds s a m top n → Holds s a m j k
+module _ {s : List ℕ} {a : List Kept} {top n from j k i p : ℕ} (mt : Meeting s a top n from j k i p) where
+  pub meeting_holds : Holds s a top n → Holds s a j k
   meeting_holds h = (mt.is h.inner h.outer h.held).holds
 
-  pub meeting_last : NoMarks s p → Meets s a m top n from false
+  pub meeting_last : NoMarks s p → Meets s a top n from false
   meeting_last h = record { is = λ b o y. let t = mt.is b o y in t.agrees false (finds_none t.c t.d h) }
 
   module _ {q e : ℕ} (h : NameShown s p q e) where
-    passed : ((b : List (List ℕ)) (o : List (List (List ℕ))) (t : Met s a m from j k i p b o) → among h.text t.c ≡ false) → Meeting s a m top n from j k i e
+    passed : ((b : List (List ℕ)) (o : List (List (List ℕ))) (t : Met s a from j k i p b o) → among h.text t.c ≡ false) → Meeting s a top n from j k i e
     passed w = record {
       low = omega (arith, mt.low, h.shows.later);
       high = h.shows.high;
@@ -204,22 +190,22 @@ module _ {s a m : List ℕ} {top n from j k i p : ℕ} (mt : Meeting s a m top n
 
     -- a name of an object of which names are held
     module _ (z : i ≡ 0) where
-      pub meeting_found : (x : ℕ) → j ≤ x → x < k → same_text s q s (get_or a x 0) ≡ true → Meets s a m top n from true
+      pub meeting_found : (x : ℕ) → j ≤ x → x < k → same_text s q s (place_at a x) ≡ true → Meets s a top n from true
       meeting_found x u l f = record {
         is = λ b o y.
             let t = mt.is b o y in
             t.agrees true (finds_known t.c t.d h (ap (among h.text) (at_plain t.hidden z) ∙ found (held_names t.holds.held) x q u l h.text h.stands f));
       }
 
-      pub meeting_name : Without s a m j k q → Meeting s a m top n from j k i e
+      pub meeting_name : Without s a j k q → Meeting s a top n from j k i e
       meeting_name w = passed λ b o t. ap (among h.text) (at_plain t.hidden z) ∙ w.is h.text t.holds.inner (held_names t.holds.held) h.stands
 
     -- and of another
-    pub meeting_inner : (i ≡ 0 → ⊥) → Meeting s a m top n from j k i e
+    pub meeting_inner : (i ≡ 0 → ⊥) → Meeting s a top n from j k i e
     unfolding among
     meeting_inner z = passed λ b o t. ap (among h.text) (at_deeper t.hidden z)
 
-  pub meeting_opens : {e : ℕ} → Shows s p e (opens ∷ []) → Meeting s a m top n from j k (i + 1) e
+  pub meeting_opens : {e : ℕ} → Shows s p e (opens ∷ []) → Meeting s a top n from j k (i + 1) e
   meeting_opens h = record {
     low = omega (arith, mt.low, h.later);
     high = h.high;
@@ -229,7 +215,7 @@ module _ {s a m : List ℕ} {top n from j k i p : ℕ} (mt : Meeting s a m top n
   }
 
   module _ {e : ℕ} (h : Shows s p e (closes ∷ [])) where
-    pub meeting_out : (i ≡ 0 → ⊥) → Meeting s a m top n from j k (i - 1) e
+    pub meeting_out : (i ≡ 0 → ⊥) → Meeting s a top n from j k (i - 1) e
     meeting_out z = record {
       low = omega (arith, mt.low, h.later);
       high = h.high;
@@ -238,27 +224,21 @@ module _ {s a m : List ℕ} {top n from j k i p : ℕ} (mt : Meeting s a m top n
           record { holds = t.holds; c = around t.d; d = beyond t.d; hidden = hidden_out t.hidden z; agrees = λ r f. t.agrees r (finds_closes t.c t.d h f) };
     }
 
-    -- back to the object around, where it is held or not
-    closed : {j' k' : ℕ} → i ≡ 0 → ((b : List (List ℕ)) (o : List (List (List ℕ))) → Held s a m j k b o → Held s a m j' k' (around o) (beyond o)) → Meeting s a m top n from j' k' i e
-    closed z g = record {
+    -- back to the object around, held or not
+    pub meeting_closes : i ≡ 0 → Meeting s a top n from (base_around a j) (j - 1) i e
+    meeting_closes z = record {
       low = omega (arith, mt.low, h.later);
       high = h.high;
       is = λ b o y.
           let t = mt.is b o y in
           record {
-            holds = record { inner = around t.holds.outer; outer = beyond t.holds.outer; held = g t.holds.inner t.holds.outer t.holds.held };
+            holds = record { inner = around t.holds.outer; outer = beyond t.holds.outer; held = held_closes t.holds.held };
             c = around t.d;
             d = beyond t.d;
             hidden = hidden_held t.hidden z;
             agrees = λ r f. t.agrees r (finds_closes t.c t.d h f);
           };
     }
-
-    pub meeting_bare : i ≡ 0 → j ≡ 0 → Meeting s a m top n from j 0 i e
-    meeting_bare z c = closed z (λ b o y. held_bare y c)
-
-    pub meeting_closes : i ≡ 0 → (j ≡ 0 → ⊥) → Meeting s a m top n from (get_or a (j - 1) 0) (j - 1) i e
-    meeting_closes z c = closed z (λ b o y. held_closes y c)
 
 -- PASS BY PASS
 

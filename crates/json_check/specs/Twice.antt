@@ -1,7 +1,9 @@
 -- Names that stand twice in one object: the search by passes that keep some names.
-use Rattle.std.specs.Prelude.{◌≡◌, Bool, true, false, List, [], ◌∷◌, ℕ, suc, ◌≤◌, ◌<◌, length, drop, get_or}
+use Rattle.std.specs.Prelude.{◌≡◌, Bool, true, false, List, [], ◌∷◌, ℕ, suc, ◌≤◌, ◌<◌, length, drop}
 use Rattle.json_grammar_rules.specs.Scan.{marks, search, every, no_more}
 use Rattle.json_string.specs.Strings.{NameAt, fingerprint_at}
+use Rattle.json_check.specs.Stacks.{place_at, print_at}
+use Rattle.json_check.specs.declared.names.Kept.{Kept}
 use Rattle.json_check.specs.declared.names.Search.{Search}
 use Rattle.json_check.specs.declared.names.Search.TheVariants.{Twice, Once, Unfinished}
 
@@ -9,27 +11,27 @@ use Rattle.json_check.specs.declared.names.Search.TheVariants.{Twice, Once, Unfi
 pub record Finds (kept : List ℕ → List (List ℕ) → List (List ℕ)) (s : List ℕ) (p : ℕ) (b : List (List ℕ)) (o : List (List (List ℕ))) (r : Bool) : Type 0 where
   pub is : (n : ℕ) → length (drop p s) ≤ n → r ≡ search kept b o (marks n (drop p s))
 
--- THE STACK: places of names in a, and their fingerprints in m
+-- THE STACK: names in a, each by its place and its fingerprint
 
 -- those from j up to k, the last one first
-pub data Names (s a m : List ℕ) (j : ℕ) : ℕ → List (List ℕ) → Type 0 where
-  none : Names s a m j j []
-  one_more : {k : ℕ} {n : List ℕ} {b : List (List ℕ)} → NameAt s (get_or a k 0) n → get_or m k 0 ≡ fingerprint_at s (get_or a k 0) → Names s a m j k b → Names s a m j (suc k) (n ∷ b)
+pub data Names (s : List ℕ) (a : List Kept) (j : ℕ) : ℕ → List (List ℕ) → Type 0 where
+  none : Names s a j j []
+  one_more : {k : ℕ} {n : List ℕ} {b : List (List ℕ)} → NameAt s (place_at a k) n → print_at a k ≡ fingerprint_at s (place_at a k) → Names s a j k b → Names s a j (suc k) (n ∷ b)
 
 -- the innermost object's stand from j on; below them stands where those of the object around it begin
-pub data Held (s a m : List ℕ) : ℕ → ℕ → List (List ℕ) → List (List (List ℕ)) → Type 0 where
-  outermost : {k : ℕ} {b : List (List ℕ)} → Names s a m 0 k b → Held s a m 0 k b []
-  within : {j k : ℕ} {b c : List (List ℕ)} {o : List (List (List ℕ))} → Held s a m (get_or a j 0) j c o → Names s a m (suc j) k b → Held s a m (suc j) k b (c ∷ o)
+pub data Held (s : List ℕ) (a : List Kept) : ℕ → ℕ → List (List ℕ) → List (List (List ℕ)) → Type 0 where
+  outermost : {k : ℕ} {b : List (List ℕ)} → Names s a 0 k b → Held s a 0 k b []
+  within : {j k : ℕ} {b c : List (List ℕ)} {o : List (List (List ℕ))} → Held s a (place_at a j) j c o → Names s a (suc j) k b → Held s a (suc j) k b (c ∷ o)
 
 -- some names are held so
-pub record Holds (s a m : List ℕ) (j k : ℕ) : Type 0 where
+pub record Holds (s : List ℕ) (a : List Kept) (j k : ℕ) : Type 0 where
   pub inner : List (List ℕ)
   pub outer : List (List (List ℕ))
-  pub held : Held s a m j k inner outer
+  pub held : Held s a j k inner outer
 
 -- r says whether a name from p on is equal to one of its object's that are held
-pub record Meets (s a m : List ℕ) (j k p : ℕ) (r : Bool) : Type 0 where
-  pub is : (b : List (List ℕ)) (o : List (List (List ℕ))) → Held s a m j k b o → Finds no_more s p b o r
+pub record Meets (s : List ℕ) (a : List Kept) (j k p : ℕ) (r : Bool) : Type 0 where
+  pub is : (b : List (List ℕ)) (o : List (List (List ℕ))) → Held s a j k b o → Finds no_more s p b o r
 
 -- r says whether some object has a name twice, from p on
 abbrev pub TwiceFrom : List ℕ → ℕ → Bool → Type 0

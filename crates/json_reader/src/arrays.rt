@@ -6,6 +6,7 @@ use json_tokens::skip_ws;
 
 // What follows an opening bracket, up to the closing one.
 // Rules out a bracket that counts for no level, and an array that a brace closes.
+// Beside `object`: they call on to different readers, which one function could tell apart by a flag alone, as a closure has no proof within the cycle.
 #[cycle(reading)]
 pub(crate) fn array(s: &[u8], from: usize, depth: usize) -> Option<usize>
     ensures { ArrayEnds s.now from depth result }
@@ -25,6 +26,7 @@ pub(crate) fn array(s: &[u8], from: usize, depth: usize) -> Option<usize>
 
 // One element or more, and the closing bracket.
 // Rules out a comma before the closing bracket, and elements with no comma between them.
+// Beside `member_list`: what follows an item ends the list, goes on or is wrong, and a function with that answer of three cases is longer than these tests.
 #[cycle(reading)]
 pub(crate) fn elements(s: &[u8], from: usize, depth: usize) -> Option<usize>
     ensures { ElementsEnd s.now from depth result }

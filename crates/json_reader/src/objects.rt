@@ -7,6 +7,7 @@ use json_tokens::skip_ws;
 
 // What follows an opening brace, up to the closing one.
 // Rules out a brace that counts for no level, and an empty object at depth 0.
+// Beside `array`, for the reason given there.
 #[cycle(reading)]
 pub(crate) fn object(s: &[u8], from: usize, depth: usize) -> Option<usize>
     ensures { ObjectEnds s.now from depth result }
@@ -26,6 +27,7 @@ pub(crate) fn object(s: &[u8], from: usize, depth: usize) -> Option<usize>
 
 // One member or more, and the closing brace.
 // Rules out a comma before the closing brace, and members with no comma between them.
+// Beside `elements`, for the reason given there; white space stands before a member's name, and is part of reading an element.
 #[cycle(reading)]
 pub(crate) fn member_list(s: &[u8], from: usize, depth: usize) -> Option<usize>
     ensures { MembersEnd s.now from depth result }

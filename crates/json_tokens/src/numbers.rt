@@ -4,6 +4,8 @@ ghost use Rattle.json_grammar_rules.specs.Bytes.{is_digit, is_e, is_sign};
 ghost use Rattle.json_grammar_rules.specs.Reader.{optional};
 ghost use Rattle.json_tokens.specs.Tokens.{skip_to, MovesTo, DigitsEnd, IntEnds, FracEnds, ExpEnds, UnsignedEnds, number_end};
 
+use crate::classes::skip;
+
 // DIGIT
 fn is_digit(b: u8) -> bool
     ensures { result ≡ is_digit b }
@@ -29,11 +31,7 @@ fn is_e(b: u8) -> bool
 fn skip_digits(s: &[u8], from: usize) -> usize
     ensures { result ≡ skip_to is_digit s.now from }
 {
-    let mut at = from;
-    while at < s.len() && is_digit(s[at]) {
-        at += 1;
-    }
-    at
+    skip(s, from, is_digit)
 }
 
 // 1*DIGIT

@@ -3,6 +3,8 @@ ghost use Rattle.std.specs.Prelude.{◌≡◌};
 ghost use Rattle.json_grammar_rules.specs.Bytes.{is_ws};
 ghost use Rattle.json_tokens.specs.Tokens.{skip_ws};
 
+use crate::classes::skip;
+
 // Space, horizontal tab, line feed, carriage return.
 fn is_ws(b: u8) -> bool
     ensures { result ≡ is_ws b }
@@ -15,9 +17,5 @@ fn is_ws(b: u8) -> bool
 pub fn skip_ws(s: &[u8], from: usize) -> usize
     ensures { result ≡ skip_ws s.now from }
 {
-    let mut at = from;
-    while at < s.len() && is_ws(s[at]) {
-        at += 1;
-    }
-    at
+    skip(s, from, is_ws)
 }

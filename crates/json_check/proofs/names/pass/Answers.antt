@@ -1,33 +1,26 @@
 -- `pass` meets its contract.
-use mathlib.Core.Path.{refl, sym, ◌∙◌}
+use mathlib.Core.Path.{sym, ◌∙◌}
 use native.Mathlib.Omega.{arith}
-use lib.ListN.{length-set}
 use Rattle.json_check.proofs.MarkLaws.{name_told, opens_told, closes_told, none_told}
 use Rattle.json_check.proofs.StackLaws as stack
 use Rattle.json_check.proofs.NameLaws as law
 use Rattle.json_check.proofs.names.pass.Goals as goal
 
 pub pairs-init : goal.pairs-init
-pairs-init c = (omega arith, refl, refl, law.filling_start _ _ (omega arith))
-
-pub meets-requires : goal.meets-requires
-meets-requires c = (c.pairs.invariant.3.high, law.full c.if-count-eq64.true c.pairs.invariant.3.holds)
+pairs-init c = (omega (arith, c.new-names.ensures.1), rw (c.new-names.ensures.0, c.new-names.ensures.1) (law.filling_start _ c.requires))
 
 pub returns-then-meets : goal.returns-then-meets
-returns-then-meets c = law.filling_met (law.filled c.if-count-eq64.true c.pairs.invariant.3) c.meets.ensures c.if-meets.true
+returns-then-meets c = law.filling_met c.pairs.invariant.1 c.meets.ensures c.if-meets.true
 
-pub returns-then-count-eq64 : goal.returns-then-count-eq64
-returns-then-count-eq64 c = law.filling_past (law.filled c.if-count-eq64.true c.pairs.invariant.3) c.meets.ensures c.if-meets.false (omega arith)
-
-pub next_mark-requires : goal.next_mark-requires
-next_mark-requires c = c.pairs.invariant.3.high
+pub returns-then-names-eq64 : goal.returns-then-names-eq64
+returns-then-names-eq64 c = law.filling_past c.pairs.invariant.1 c.meets.ensures c.if-meets.false (omega (arith, c.if-names-eq64.true))
 
 pub loop-i-init : goal.loop-i-init
-loop-i-init c = (omega arith, stack.held_low c.pairs.invariant.3.holds, stack.without_start _)
+loop-i-init c = (omega arith, stack.held_low c.pairs.invariant.1.holds, stack.without_start _)
 
 pub same_by_fingerprint-requires : goal.same_by_fingerprint-requires
 same_by_fingerprint-requires c =
-    (c.fingerprint-print.ensures, stack.held_print c.pairs.invariant.3.holds _ c.loop-i.invariant.0 c.loop-i-test.true)
+    (c.fingerprint-print.ensures, stack.held_print c.pairs.invariant.1.holds _ c.loop-i.invariant.0 c.loop-i-test.true)
 
 pub loop-i-preserved : goal.loop-i-preserved
 loop-i-preserved c =
@@ -38,44 +31,37 @@ pairs-smaller-in-Some-Name c = let h = (name_told _ _ c.next_mark.ensures c.in-S
 
 pub pairs-preserved-in-Some-Name : goal.pairs-preserved-in-Some-Name
 pairs-preserved-in-Some-Name c = (
-  omega (arith, c.if-count-eq64.false),
-  simp length-set c.pairs.invariant.1,
-  simp length-set c.pairs.invariant.2,
-  law.filling_name c.pairs.invariant.3 (name_told _ _ c.next_mark.ensures c.in-Some-Name.is c.in-Some-Name.field-0-is) _ (stack.without_all c.loop-i.invariant c.loop-i-test.false) c.fingerprint-print.ensures
-      (omega (arith, c.if-count-eq64.false, c.pairs.invariant.1)) (omega (arith, c.if-count-eq64.false, c.pairs.invariant.2)),
+  omega (arith, c.keep.ensures.2, c.pairs.invariant.0, c.if-names-eq64.false),
+  rw (c.keep.ensures.0, c.keep.ensures.1, c.keep.ensures.2) (law.filling_name c.pairs.invariant.1 (name_told _ _ c.next_mark.ensures c.in-Some-Name.is c.in-Some-Name.field-0-is) _ (stack.without_all c.loop-i.invariant c.loop-i-test.false) c.fingerprint-print.ensures
+      (omega (arith, c.if-names-eq64.false, c.pairs.invariant.0, c.pairs.names.size))),
 )
 
 pub pairs-smaller-in-Some-Opens : goal.pairs-smaller-in-Some-Opens
 pairs-smaller-in-Some-Opens c = let h = opens_told _ _ c.next_mark.ensures c.in-Some-Opens.is c.in-Some-Opens.field-0-is in omega (arith, h.later, h.high)
 
 pub pairs-preserved-in-Some-Opens : goal.pairs-preserved-in-Some-Opens
-pairs-preserved-in-Some-Opens c =
-    (omega (arith, c.if-count-eq64.false), simp length-set c.pairs.invariant.1, c.pairs.invariant.2, law.filling_opens c.pairs.invariant.3 (opens_told _ _ c.next_mark.ensures c.in-Some-Opens.is c.in-Some-Opens.field-0-is) (omega (arith, c.if-count-eq64.false, c.pairs.invariant.1)))
+pairs-preserved-in-Some-Opens c = (
+  omega (arith, c.open.ensures.2, c.pairs.invariant.0, c.if-names-eq64.false),
+  rw (c.open.ensures.0, c.open.ensures.1, c.open.ensures.2) (law.filling_opens c.pairs.invariant.1 (opens_told _ _ c.next_mark.ensures c.in-Some-Opens.is c.in-Some-Opens.field-0-is)
+      (omega (arith, c.if-names-eq64.false, c.pairs.invariant.0, c.pairs.names.size))),
+)
 
-pub offset_bounds-names-count-else-base-eq0 : goal.offset_bounds-names-count-else-base-eq0
-offset_bounds-names-count-else-base-eq0 c = omega (arith, stack.held_low c.pairs.invariant.3.holds, c.pairs.invariant.0)
-
-pub bounds-names-count-else-base-eq0 : goal.bounds-names-count-else-base-eq0
-bounds-names-count-else-base-eq0 c = omega (arith, stack.held_low c.pairs.invariant.3.holds, c.pairs.invariant.0, c.if-base-eq0.false)
-
-pub pairs-smaller-then-base-eq0 : goal.pairs-smaller-then-base-eq0
-pairs-smaller-then-base-eq0 c = let h = closes_told _ _ c.next_mark.ensures c.in-Some-Closes.is c.in-Some-Closes.field-0-is in omega (arith, h.later, h.high)
-
-pub pairs-preserved-then-base-eq0 : goal.pairs-preserved-then-base-eq0
-pairs-preserved-then-base-eq0 c =
-    (omega arith, c.pairs.invariant.1, c.pairs.invariant.2, law.filling_bare c.pairs.invariant.3 (closes_told _ _ c.next_mark.ensures c.in-Some-Closes.is c.in-Some-Closes.field-0-is) c.if-base-eq0.true)
+pub close-requires : goal.close-requires
+close-requires c = omega (arith, stack.held_low c.pairs.invariant.1.holds, c.pairs.invariant.0)
 
 pub pairs-smaller : goal.pairs-smaller
 pairs-smaller c = let h = closes_told _ _ c.next_mark.ensures c.in-Some-Closes.is c.in-Some-Closes.field-0-is in omega (arith, h.later, h.high)
 
 pub pairs-preserved : goal.pairs-preserved
-pairs-preserved c =
-    (omega (arith, stack.held_low c.pairs.invariant.3.holds, c.pairs.invariant.0), c.pairs.invariant.1, c.pairs.invariant.2, law.filling_closes c.pairs.invariant.3 (closes_told _ _ c.next_mark.ensures c.in-Some-Closes.is c.in-Some-Closes.field-0-is) c.if-base-eq0.false)
+pairs-preserved c = (
+  omega (arith, c.close.ensures.2, stack.held_low c.pairs.invariant.1.holds, c.pairs.invariant.0),
+  rw (c.close.ensures.0, c.close.ensures.1, c.close.ensures.2) (law.filling_closes c.pairs.invariant.1 (closes_told _ _ c.next_mark.ensures c.in-Some-Closes.is c.in-Some-Closes.field-0-is)),
+)
 
 pub returns-in-None : goal.returns-in-None
-returns-in-None c = law.filling_last c.pairs.invariant.3 (none_told _ _ c.next_mark.ensures c.in-None.is)
+returns-in-None c = law.filling_last c.pairs.invariant.1 (none_told _ _ c.next_mark.ensures c.in-None.is)
 
 pub returns : goal.returns
 returns c =
-    law.filling_found c.pairs.invariant.3 (name_told _ _ c.next_mark.ensures c.in-Some-Name.is c.in-Some-Name.field-0-is) _ c.loop-i.invariant.0 c.loop-i-test.true
+    law.filling_found c.pairs.invariant.1 (name_told _ _ c.next_mark.ensures c.in-Some-Name.is c.in-Some-Name.field-0-is) _ c.loop-i.invariant.0 c.loop-i-test.true
     (sym c.same_by_fingerprint.ensures ∙ c.if-same_by_fingerprint.true)
