@@ -190,14 +190,27 @@ module _ (ms : Members) (unique : repeated (names ms) ≡ false) where
   decides_said : {A B : Type 0} (k : Meaning A) (n : List ℕ) (f : A → B) → Decides (Wrong k n ms) (is_wrong (said f k (lookup n ms)))
   decides_said k n f = rw (by_cases k is_wrong {f' = λ _. false} refl refl (λ a. refl) (lookup n ms)) (decides_wrong k n)
 
+  decides_kid : (ks : List Key) → Decides (Wrong string kid ms) (is_wrong (kid_fact ks (lookup kid ms)))
+  unfolding kid_fact
+  decides_kid ks = decides_said string kid (found_by ks)
+
+  decides_text : (n : List ℕ) → Decides (Wrong string n ms) (is_wrong (text_fact (lookup n ms)))
+  unfolding text_fact
+  decides_text n = decides_said string n (λ _. tt {0})
+
+  decides_crit : Decides (Wrong strings crit ms) (is_wrong (crit_fact (lookup crit ms)))
+  unfolding crit_fact
+  decides_crit = decides_said strings crit names_by
+
+  decides_fmt : Decides (Wrong integer fmt ms) (is_wrong (fmt_fact (lookup fmt ms)))
+  unfolding fmt_fact
+  decides_fmt = decides_said integer fmt (λ z. z)
+
   decides_9 : (ks : List Key) → Decides (MissingOrWrong ms) (missing_or_wrong (facts_of ms ks))
-  unfolding missing_or_wrong facts_of kid_fact text_fact crit_fact fmt_fact
+  unfolding missing_or_wrong facts_of
   decides_9 ks =
       decides_iff first_two joined_two
-      (decides_or decides_alg
-      (decides_or (decides_said string kid (found_by ks))
-      (decides_or (decides_said string typ (λ _. tt {0}))
-      (decides_or (decides_said string cty (λ _. tt {0})) (decides_or (decides_said strings crit names_by) (decides_said integer fmt (λ z. z)))))))
+      (decides_or decides_alg (decides_or (decides_kid ks) (decides_or (decides_text typ) (decides_or (decides_text cty) (decides_or decides_crit decides_fmt)))))
 
   -- RULE 10
 

@@ -1,16 +1,19 @@
 -- Facts by their three cases: the member is absent, of the wrong kind, or says something. And the facts of two headers together.
-use Rattle.std.specs.Prelude.{◌≡◌, refl, Bool, cond, not, ℕ}
+use Rattle.std.specs.Prelude.{◌≡◌, refl, Bool, cond, not, ℕ, Option as Perhaps, Some, None}
+use Rattle.std.proofs.Common.{sym}
 use Rattle.std.proofs.Math.Bool.{true, false}
-use mathlib.Core.List.{List}
+use mathlib.Core.List.{List, [], ◌∷◌}
 use Rattle.std.proofs.Math.Option.{Option, none, some}
 use Rattle.common.specs.Options.{absent, given, bind}
 use Rattle.common.specs.Same.{same}
 use Rattle.json_grammar_rules.specs.Value.{Value, Members, mnil, mcons}
 use Rattle.keytable_rules.specs.Key.{Key}
+use Rattle.jose_rules.specs.declared.Algorithm.{Algorithm}
+use Rattle.jose_rules.specs.declared.Listed.{Listed}
 use Rattle.jose_rules.specs.declared.Said.{Said}
-use Rattle.jose_rules.specs.Names.{alg, kid, typ, cty, crit, fmt}
+use Rattle.jose_rules.specs.Names.{alg, kid, typ, cty, crit, fmt, HS256}
 use Rattle.jose_rules.specs.Members.{Meaning, string, strings, integer}
-use Rattle.jose_rules.specs.Facts.{lookup, pick, fact, said, alg_by, found_by, names_by, alg_fact, kid_fact, text_fact, crit_fact, fmt_fact, facts_of, joined, said_or, merged}
+use Rattle.jose_rules.specs.Facts.{lookup, pick, fact, said, alg_by, found_by, names_from, names_by, alg_fact, kid_fact, text_fact, crit_fact, fmt_fact, facts_of, joined, said_or, merged}
 
 -- a function of a fact, by the three cases
 module _ {A F B : Type 0} {a w : F} {f : A → F} (k : Meaning A) (g : F → B) {a' w' : B} {f' : A → B} (p : g a ≡ a') (q : g w ≡ w') (r : (x : A) → g (f x) ≡ f' x) where
@@ -56,6 +59,33 @@ module _ {A : Type 0} (k : Meaning A) where
       go none = refl
       go (some x) = refl
 
+-- what holds of any names holds of those of `crit`
+module _ (P : Listed → Type 0) (all : (b l : Bool) → P (record { bad = b; fmt = l })) where
+  from_names : (ns : List (List ℕ)) (l b : Bool) → P (names_from l b ns)
+  unfolding names_from
+  from_names [] l b = all b l
+  from_names (n ∷ ns) l b = go (same n fmt) (from_names ns _ _) (from_names ns _ _)
+    where
+      go : {x y : Listed} (t : Bool) → P x → P y → P (cond t x y)
+      go true x y = x
+      go false x y = y
+
+  pub by_names : (ns : List (List ℕ)) → P (names_by ns)
+  by_names [] = all true false
+  by_names (n ∷ ns) = from_names (n ∷ ns) false false
+
+-- what holds of both algorithms, and of a key found or not
+pub by_algorithm : (P : Algorithm → Type 0) → P Algorithm.HS256 → P Algorithm.Other → (s : List ℕ) → P (alg_by s)
+by_algorithm P x y s = go (same s HS256)
+  where
+    go : (b : Bool) → P (cond b Algorithm.HS256 Algorithm.Other)
+    go true = x
+    go false = y
+
+pub by_found : (P : Said (Perhaps ℕ) → Type 0) → ((i : ℕ) → P (Said.Is (Some i))) → P (Said.Is None) → (f : Perhaps ℕ) → P (Said.Is f)
+by_found P x y (Some i) = x i
+by_found P x y None = y
+
 -- TWO HEADERS
 
 abbrev either : Option Value → Option Value → Option Value
@@ -72,13 +102,17 @@ lookup_joined n (mcons m v ps) us = go (same m n) (lookup_joined n ps us)
     go false e = e
 
 -- the first one's fact stands unless it is absent
+module _ {A F : Type 0} (a w : F) (f : A → F) (k : Meaning A) (or : F → F → F) (first : (x : F) → or a x ≡ x) (wrong : (x : F) → or w x ≡ w) (says : (y : A) (x : F) → or (f y) x ≡ f y) where
+  fact_either : (o q : Option Value) → fact a w f k (either o q) ≡ or (fact a w f k o) (fact a w f k q)
+  fact_either none q = sym (first (fact a w f k q))
+  fact_either (some v) q = go (k v) (fact a w f k q)
+    where
+      go : (o : Option A) (x : F) → pick a w f o ≡ or (pick a w f o) x
+      go none x = sym (wrong x)
+      go (some y) x = sym (says y x)
+
 said_either : {A B : Type 0} (f : A → B) (k : Meaning A) (o q : Option Value) → said f k (either o q) ≡ said_or (said f k o) (said f k q)
-said_either f k none q = refl
-said_either {A} f k (some v) q = go (k v)
-  where
-    go : (o : Option A) → pick Said.Absent Said.Wrong (λ a. Said.Is (f a)) o ≡ said_or (pick Said.Absent Said.Wrong (λ a. Said.Is (f a)) o) (said f k q)
-    go none = refl
-    go (some a) = refl
+said_either f k = fact_either Said.Absent Said.Wrong (λ a. Said.Is (f a)) k said_or (λ x. refl) (λ x. refl) (λ y x. refl)
 
 -- THE FACTS OF JOINED MEMBERS are the merged facts
 pub facts_joined : (ps us : Members) (ks : List Key) → facts_of (joined ps us) ks ≡ merged (facts_of ps ks) (facts_of us ks)

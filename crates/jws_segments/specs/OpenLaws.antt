@@ -58,11 +58,10 @@ compared z mac l = go (eqb (length (decode z)) 32) refl
 
 -- THE THREE SEGMENTS
 
-pub opening_is : (x y z h p : List ℕ) {hb pb bytes : List ℕ} {u v w : Option ℕ} {s : Option (Option (List ℕ))}
-    → (u ≡ segment_of x) × (hb ≡ decoded_out x h) → (v ≡ segment_of y) × (pb ≡ decoded_out y p) → (w ≡ segment_of z) × (bytes ≡ decoded_out z (replicate 32 0))
-    → s ≡ whole_of w bytes → opened_to (record { header = u; payload = v; signature = s }) hb pb ≡ opening x y z h p
-unfolding opening
-opening_is x y z h p (e, i) (f, j) (g, k) l = rw (e, f, i, j, l, g, k) (ap (λ (s : Option (Option (List ℕ))). opened_to (record { header = segment_of x; payload = segment_of y; signature = s }) (decoded_out x h) (decoded_out y p)) (go (strict z) refl))
+-- the third segment: its signature, by the length and the buffer
+pub signature_is : (z : List ℕ) {n : Option ℕ} {bytes : List ℕ} → (n ≡ segment_of z) × (bytes ≡ decoded_out z (replicate 32 0))
+    → whole_of n bytes ≡ cond (strict z) (Some (signature_in z)) None
+signature_is z (g, k) = rw (g, k) (go (strict z) refl)
   where
     signature : (t : Bool) → strict z ≡ true → eqb (length (decode z)) 32 ≡ t → then_some t (decoded_out z (replicate 32 0)) ≡ cond t (Some (decode z)) None
     signature true h e = ap Some (signature_bytes z h (eqb-true (length (decode z)) 32 e))
@@ -72,6 +71,12 @@ opening_is x y z h p (e, i) (f, j) (g, k) l = rw (e, f, i, j, l, g, k) (ap (λ (
         → whole_of (cond c (Some (length (decode z))) None) (decoded_out z (replicate 32 0)) ≡ cond c (Some (signature_in z)) None
     go true e = ap Some (signature (eqb (length (decode z)) 32) e refl)
     go false e = refl
+
+pub opening_is : (x y z h p : List ℕ) {hb pb bytes : List ℕ} {u v w : Option ℕ} {s : Option (Option (List ℕ))}
+    → (u ≡ segment_of x) × (hb ≡ decoded_out x h) → (v ≡ segment_of y) × (pb ≡ decoded_out y p) → (w ≡ segment_of z) × (bytes ≡ decoded_out z (replicate 32 0))
+    → s ≡ whole_of w bytes → opened_to (record { header = u; payload = v; signature = s }) hb pb ≡ opening x y z h p
+unfolding opening
+opening_is x y z h p (e, i) (f, j) g l = let m = l ∙ signature_is z g in rw (e, f, i, j, m) refl
 
 -- what is opened of a token: all three segments, if each is strict
 abbrev parts_of : List ℕ → List ℕ → List ℕ → Opened

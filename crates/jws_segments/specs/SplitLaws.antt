@@ -38,6 +38,31 @@ front_all : (t : List ℕ) → periods t ≡ 0 → front t ≡ t
 unfolding front
 front_all t e = ap front (sym (append-nil t)) ∙ front_past t [] e ∙ append-nil t
 
+-- a block of n bytes without a period is passed over
+pub block_past : (t : List ℕ) (i n : ℕ) → i + n ≤ length t → periods (take n (drop i t)) ≡ 0 → length (front (drop i t)) ≡ n + length (front (drop (i + n) t))
+block_past t i n h e =
+    let r = drop i t in
+    ap (λ (l : List ℕ). length (front l)) (sym (take-append-drop n r))
+    ∙ ap length (front_past (take n r) (drop n r) e)
+    ∙ length-append (take n r) (front (drop n r))
+    ∙ rw (length-take-le n r (omega (arith, length-drop i t)), drop-drop n i t) refl
+
+-- what a search for the first period says, by the place n where it ends
+module _ (t : List ℕ) {n : ℕ} (e : n ≡ length (front t)) where
+  pub none_found : length t ≤ n → periods t ≡ 0
+  none_found h = go (periods t) refl
+    where
+      go : (k : ℕ) → periods t ≡ k → k ≡ 0
+      go zero p = refl
+      go (suc k) p = let d = divided t (omega arith) in absurd (omega arith)
+
+  pub one_found : n < length t → Divided t
+  one_found h = go (periods t) refl
+    where
+      go : (k : ℕ) → periods t ≡ k → Divided t
+      go zero p = absurd (omega (arith, ap length (front_all t p)))
+      go (suc k) p = divided t (omega arith)
+
 -- WHERE THE FIRST PERIOD STANDS
 
 with_is : (s : List ℕ) → with_period s ≡ ltb 0 (periods s)
@@ -152,9 +177,9 @@ found t {n} e = go (ltb 0 (periods t)) refl e
     go true k e = record { place = cc; parts = divided t (ltb-true 0 (periods t) k) }
     go false k e = cc
 
-pub none_found : (t : List ℕ) → None ≡ first_period t → periods t ≡ 0
+pub no_period : (t : List ℕ) → None ≡ first_period t → periods t ≡ 0
 unfolding first_period
-none_found t e = go (ltb 0 (periods t)) refl e
+no_period t e = go (ltb 0 (periods t)) refl e
   where
     go : (q : Bool) → ltb 0 (periods t) ≡ q → None ≡ cond q (Some (length (front t))) None → periods t ≡ 0
     go true k e = cc

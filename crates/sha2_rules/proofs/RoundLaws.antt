@@ -1,9 +1,11 @@
 -- Rounds, one and two at a time, and the sums that follow them.
 use Rattle.std.specs.Prelude.{◌≡◌, refl, List, ℕ, ◌+◌, ◌%◌, ◌^◌, ◌<◌, length, get_or, take, set}
-use Rattle.std.proofs.Common.{◌∙◌, arith}
+use Rattle.std.proofs.Common.{ap, sym, ◌∙◌, arith}
+use Rattle.std.proofs.Math.Nat.{mod-add-mod}
 use Rattle.std.proofs.Math.Numerals.{add-one}
+use Rattle.sha2_rules.specs.Words.{Ch}
 use Rattle.sha2_rules.specs.Parameters.{Parameters}
-use Rattle.sha2_rules.specs.Compression.{schedule, round, rounds, sums}
+use Rattle.sha2_rules.specs.Compression.{◌⊞◌, schedule, T1, round, rounds, sums}
 use Rattle.sha2_rules.proofs.ListLaws.{stored}
 use Rattle.sha2_rules.proofs.ScheduleLaws.{word_in}
 
@@ -24,3 +26,17 @@ pub one_sum : (P : Parameters) (v h r : List ℕ) (i x : ℕ) → i < length r �
     → take (i + 1) (set r i x) ≡ sums P v h (i + 1)
 unfolding sums
 one_sum P v h r i x l e f = stored (sums P v h i) r i x l e ∙ rw (add-one, f)
+
+-- T1, of the sum of its constant and its word
+pub summed : (P : Parameters) (v : List ℕ) (k w sum : ℕ) → sum ≡ ◌⊞◌ P k w
+    → ◌⊞◌ P (◌⊞◌ P (◌⊞◌ P (get_or v 7 0) sum) (Ch P.w (get_or v 4 0) (get_or v 5 0) (get_or v 6 0))) (P.Sigma1 (get_or v 4 0)) ≡ T1 P v k w
+summed P v k w sum e = order (2 ^ P.w) (get_or v 7 0) (P.Sigma1 (get_or v 4 0)) (Ch P.w (get_or v 4 0) (get_or v 5 0) (get_or v 6 0)) k w sum e
+  where
+    order : (m h s c k w sum : ℕ) → sum ≡ (k + w) % m → (((h + sum) % m + c) % m + s) % m ≡ ((((h + s) % m + c) % m + k) % m + w) % m
+    order m h s c k w sum e =
+        let f : h + (k + w) % m + c + s ≡ (k + w) % m + (h + c + s) = omega arith in
+        let g : k + w + (h + c + s) ≡ h + s + c + k + w = omega arith in
+        rw e
+        (ap (λ (x : ℕ). (x + s) % m) (mod-add-mod (h + (k + w) % m) m c) ∙ mod-add-mod (h + (k + w) % m + c) m s
+        ∙ ap (λ (x : ℕ). x % m) f ∙ mod-add-mod (k + w) m (h + c + s) ∙ ap (λ (x : ℕ). x % m) g
+        ∙ sym (ap (λ (x : ℕ). ((x + k) % m + w) % m) (mod-add-mod (h + s) m c) ∙ ap (λ (x : ℕ). (x + w) % m) (mod-add-mod (h + s + c) m k) ∙ mod-add-mod (h + s + c + k) m w))
