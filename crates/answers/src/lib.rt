@@ -1,4 +1,4 @@
-// The answers of every call, numbered as in docs/SPECIFICATION.md and named as in include/jws.h.
+// The answers of every call, numbered as in docs/SPECIFICATION.md; include/jws.h has a constant for each.
 #![tactic(auto)]
 
 ghost use Rattle.std.specs.Prelude.{◌≡◌, [], ◌∷◌};

@@ -6,7 +6,7 @@ ghost use Rattle.jose_facts.specs.Known.{name, slot};
 use crate::words::{ALG, CRIT, CTY, FMT, KID, TYP, noted};
 use json_members::{Entry, Value, entry_at};
 
-// A field for each name: what they say has six types, so that an array of slots would want a name at every use again.
+// A field for each name: what they say has five types, so that an array of slots would want a name at every use again.
 #[derive(Clone, Copy)]
 pub struct Known {
     pub alg: Option<Value>,

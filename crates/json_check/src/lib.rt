@@ -13,8 +13,8 @@ use crate::names::twice_from;
 use answers::Refusal;
 use json_reader::text;
 
-// What a text of any length answers: 7 if the grammar doesn't derive it within the depth; 8 if an object in it has a name twice; 0 if it is read.
-// Rules out 8 for a text that breaks off after two equal names, and 0 for two names that are equal after their escapes are resolved.
+// What a text of any length answers: `NotDerived` if the grammar doesn't derive it within the depth; `NameTwice` if an object in it has a name twice.
+// Rules out `NameTwice` for a text that breaks off after two equal names, and two names let through that are equal after their escapes are resolved.
 pub fn check_text(s: &[u8], depth: usize) -> Result<(), Refusal>
     ensures { answer result ≡ first (grammar_tests depth s.now) }
 {

@@ -12,8 +12,8 @@ use json_grammar_rules::Kind;
 use json_members::{entry_at, top_members};
 use json_rules::{DEEPEST, LONGEST, Member, Place};
 
-// What a header answers: 5 if it is too long; else what its text answers within the greatest depth.
-// Rules out 7 for a header that is too long, and 0 for one that is a byte too long.
+// What a header answers: `HeaderTooLong`; else what its text answers within the greatest depth.
+// Rules out `NotDerived` for a header that is too long, and one let through that is a byte too long.
 pub fn check(header: &[u8]) -> Result<(), Refusal>
     ensures { answer result ≡ checked header.now }
 {
@@ -52,8 +52,8 @@ fn nth_member(s: &[u8], from: usize, depth: usize, k: usize) -> Result<Member, R
     Ok(by_kind(m.value.kind, m.name, m.value.place))
 }
 
-// Member k of the top object, from 0; 16 past the last; 5, 7 or 8 if the header isn't read.
-// Rules out the first member for every k, and the first at k = 0 with 16 for every other k.
+// Member k of the top object, from 0; `NoSuchMember` past the last; what `check` answers if the header isn't read.
+// Rules out the first member for every k, and the first at k = 0 with `NoSuchMember` for every other k.
 pub fn member(header: &[u8], k: usize) -> Result<Member, Refusal>
     ensures { shown result ≡ member_of header.now k }
 {
