@@ -18,7 +18,7 @@ import sys
 from dataclasses import dataclass
 
 from kit import COMMON_WORDS, CRATE, HERE, OUT, ROOT, Kit, contents, proved_module, run
-from module import PROBES, Module, Refused, loaded_apart
+from module import PROBES, Module, Refused
 
 sys.path.append(os.path.join(ROOT, "rust", "tools"))
 import elf  # noqa: E402
@@ -107,9 +107,8 @@ def without_runs(text):
 
 
 def for_target(kit, target, text, module, include=INCLUDE):
-    """The module's text for a target: nothing of x86-64, no layout but the module's own, no runs where they don't pay, and results extended as its C
-    compilers expect."""
-    text = loaded_apart(text if target.wide else without_runs(text))
+    """The module's text for a target: nothing of x86-64, no runs where they don't pay, and results extended as its C compilers expect."""
+    text = text if target.wide else without_runs(text)
     names = [name.lstrip("@") for name in module.exported]
     header = declared(kit, target, names, include)
     for name, (result, arguments) in module.exported.items():

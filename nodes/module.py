@@ -13,9 +13,6 @@ unification). In no object may a pointer's eight bytes overlap a number, a fille
 and a variable that is a pointer, and so narrower on such a processor, may be nothing else. What C lends may hold no pointer. Zeros alone may
 be filled in over the whole of a pointer: four of them or eight, they are the pointer to nothing, which a pointer may be compared with.
 
-One instruction alone has a layout of its own, a load of two parts at once. Where its second part would lie elsewhere with shorter pointers, each part is
-loaded from where the module has it (`loaded_apart`); that means the same for x86-64.
-
 Every other form is refused with its line: it may be right, but nobody has looked.
 """
 import re
@@ -241,7 +238,7 @@ class Module:
 
     def load(self, places, where, result, kind, source, alignment):
         node, offset = places[source]
-        for part, (each, at) in enumerate(zip(kinds(kind), starts(kind))):
+        for part, (each, at) in enumerate(zip(kinds(kind), starts(kind, where))):
             place = (node, None if offset is None else offset + at)
             if each == "ptr":
                 aligned(where, alignment)
@@ -329,29 +326,15 @@ def kinds(result):
     return [] if result == "void" else result.strip("{ }").split(", ")
 
 
-def starts(kind, pointer=POINTER):
-    """Where the parts of a type begin."""
+def starts(kind, where):
+    """Where the parts of a type begin. A pair whose second part lies elsewhere where pointers are shorter is refused."""
     if len(kinds(kind)) == 1:
         return [0]
-    first, second = (size_of(each, pointer) for each in kinds(kind))
-    return [0, -(-first // second) * second]
-
-
-def loaded_apart(text):
-    """The module in which each pair whose second part lies elsewhere where pointers are shorter is loaded part by part, from where the module has them."""
-
-    def parts_of(match):
-        result, kind, source, alignment = match.groups()
-        if starts(kind) == starts(kind, POINTER // 2):
-            return match[0]
-        first, second = kinds(kind)
-        return (f"  {result}.0 = load {first}, ptr {source}, align {alignment}\n"
-                f"  {result}.place = getelementptr i8, ptr {source}, i64 {starts(kind)[1]}\n"
-                f"  {result}.1 = load {second}, ptr {result}.place, align {alignment}\n"
-                f"  {result}.half = insertvalue {kind} poison, {first} {result}.0, 0\n"
-                f"  {result} = insertvalue {kind} {result}.half, {second} {result}.1, 1")
-
-    return re.sub(rf"^  (%r\d+) = load ({PAIR}), ptr (%[ra]\d+), align (\d+){NOTES}$", parts_of, text, flags=re.M)
+    first, second = kinds(kind)
+    places = {-(-size_of(first, pointer) // size_of(second, pointer)) * size_of(second, pointer) for pointer in (POINTER // 2, POINTER)}
+    if len(places) > 1:
+        raise Refused(f"{where}: {kind} has its second part elsewhere where pointers are shorter")
+    return [0, *places]
 
 
 def aligned(where, alignment):
@@ -459,10 +442,10 @@ ROWS = [
      "a pointer at place 0, and a number of 8 bytes"),
     ("where a slice's number stands a pointer is read", SLICE + PAIR_OF + "  %r5 = load ptr, ptr %r1, align 8", "a pointer at place 8, and a number"),
     ("two numbers are read", "  %r0 = alloca [16 x i8], align 8\n  store i64 %a1, ptr %r0, align 8\n  %r1 = load { i8, i64 }, ptr %r0, align 8", None),
-    ("a pointer behind a short number", "  %r0 = alloca [16 x i8], align 8\n  %r1 = load { i8, ptr }, ptr %r0, align 8", None),
-    ("two pointers", "  %r0 = alloca [16 x i8], align 8\n  %r1 = load { ptr, ptr }, ptr %r0, align 8", None),
+    ("a pointer behind a short number", "  %r0 = alloca [16 x i8], align 8\n  %r1 = load { i8, ptr }, ptr %r0, align 8", "elsewhere where pointers are shorter"),
+    ("two pointers", "  %r0 = alloca [16 x i8], align 8\n  %r1 = load { ptr, ptr }, ptr %r0, align 8", "elsewhere where pointers are shorter"),
     ("a byte and a pointer, whose place has a number", "  %r0 = alloca [16 x i8], align 8\n  %r1 = load { i8, ptr }, ptr %r0, align 8\n"
-     "  %r2 = getelementptr i8, ptr %r0, i64 8\n  store i64 %a1, ptr %r2, align 8", "a pointer at place 8"),
+     "  %r2 = getelementptr i8, ptr %r0, i64 8\n  store i64 %a1, ptr %r2, align 8", "elsewhere where pointers are shorter"),
     ("a slice is taken for two numbers", SLICE + "  %r3 = call { i64, i64 } @slice(ptr %r0)", "gives { ptr, i64 } back"),
     ("a number is given back for nothing", "  ret i64 %a1", "i64 is given back, and not void"),
     ("a pointer stands at any place", "  %r0 = alloca [64 x i8], align 8\n  %r1 = getelementptr i8, ptr %r0, i64 %a1\n"
@@ -476,14 +459,6 @@ ROWS = [
     ("a number is given for a pointer", "  call void @read(i64 %a1)", "a pointer and a number"),
     ("inline assembly", '  call void asm "nop", ""()', "a form that isn't known"),
 ]
-
-
-APART = """  %r1.0 = load i8, ptr %r0, align 8
-  %r1.place = getelementptr i8, ptr %r0, i64 8
-  %r1.1 = load ptr, ptr %r1.place, align 8
-  %r1.half = insertvalue { i8, ptr } poison, i8 %r1.0, 0
-  %r1 = insertvalue { i8, ptr } %r1.half, ptr %r1.1, 1
-"""
 
 
 def refusal(text):
@@ -521,9 +496,6 @@ def self_test():
         ("it may return", "declare void @llvm.trap() #3\n" + plain + "attributes #3 = { cold nounwind memory(inaccessiblemem: write) }\n", "another attributes"),
         ("attributes of nothing", plain + f"attributes #2 = {KNOWN.format('write')}\n", "another attributes"),
     ]
-    pair = FRAME.replace("BODY", "  %r0 = alloca [16 x i8], align 8\n  %r1 = load { i8, ptr }, ptr %r0, align 8")
-    if loaded_apart(plain) != plain or APART not in loaded_apart(pair):
-        raise Refused("self-test: a pair isn't loaded part by part")
     for name, text, said in texts:
         got = refusal(text)
         if (got is None) != (said is None) or (said is not None and said not in got):

@@ -13,7 +13,13 @@ use base64url_words::Values;
 pub fn first_outside(values: &Values, text: &[u8]) -> Option<usize>
     ensures { result ≡ position (λ c. nat_le 64 (value c)) text.now }
 {
-    text.iter().position(|c| values.value(*c) >= 64)
+    // no `position`, as in crate jws_segments' search for periods
+    for i in 0..text.len() {
+        if values.value(text[i]) >= 64 {
+            return Some(i);
+        }
+    }
+    None
 }
 
 // The bits of the last character that belong to no byte.

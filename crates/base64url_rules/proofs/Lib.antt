@@ -11,3 +11,4 @@ pub mod GroupLaws
 pub mod StrictGroups
 pub mod Listed
 pub mod Grouping
+pub mod Searches

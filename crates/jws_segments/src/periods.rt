@@ -2,6 +2,9 @@
 ghost use Rattle.std.specs.Prelude.{◌≡◌, ◌<◌, length, nat_eq, position, IfSome};
 ghost use Rattle.jws_segments.specs.Split.{first_period, split_of, with_period};
 
+// By `for` and places: an iterator's `position` and `fold` hand on a byte and a pointer, which processors with shorter pointers would load from other
+// places than the module has them.
+
 // How many bytes are looked at together.
 const BLOCK: usize = 32;
 
@@ -9,21 +12,35 @@ const BLOCK: usize = 32;
 fn has_period(s: &[u8]) -> bool
     ensures { result ≡ with_period s.now }
 {
-    s.iter().fold(false, |found, byte| found | (*byte == b'.'))
+    let mut found = false;
+    for i in 0..s.len() {
+        found |= s[i] == b'.';
+    }
+    found
 }
 
 // The first block with a period.
 fn block_with_period(blocks: &[[u8; BLOCK]]) -> Option<usize>
     ensures { result ≡ position with_period blocks.now }
 {
-    blocks.iter().position(|block| has_period(block))
+    for i in 0..blocks.len() {
+        if has_period(&blocks[i]) {
+            return Some(i);
+        }
+    }
+    None
 }
 
 // The first period, byte by byte.
 fn period(s: &[u8]) -> Option<usize>
     ensures { result ≡ position (λ b. nat_eq b 46) s.now }
 {
-    s.iter().position(|byte| *byte == b'.')
+    for i in 0..s.len() {
+        if s[i] == b'.' {
+            return Some(i);
+        }
+    }
+    None
 }
 
 // Where the first period stands. Blocks without one are passed over whole.
