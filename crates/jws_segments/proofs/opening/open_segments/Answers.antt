@@ -4,4 +4,4 @@ use Rattle.jws_segments.proofs.opening.open_segments.Goals as goal
 
 pub returns : goal.returns
 returns c =
-    opening_is _ _ _ _ _ c.decode_segment-header_length.ensures c.decode_segment-payload_length.ensures c.decode_segment-signature_length.ensures c.whole.ensures
+    opening_is _ _ _ _ _ c.decode_segment-header_length.ensures c.decode_segment-payload_length.ensures c.decode_segment-signature_length.ensures
