@@ -9,5 +9,5 @@ pub returns : goal.returns
 returns c =
     let block = c.args.block.now in
     let l : length block ≡ 64 = omega arith in
-    c.finish.ensures ∙ ap (λ (n : ℕ). hash_after sha_256 c.absorb_blocks.new.self.value n c.args.m.now) (sym l)
+    c.finish.ensures.0 ∙ ap (λ (n : ℕ). hash_after sha_256 c.absorb_blocks.new.self.value n c.args.m.now) (sym l)
     ∙ rw (c.absorb_blocks.ensures, c.restart.ensures) (after_blocks sha_256 block c.args.m.now (omega arith) (omega arith))

@@ -7,4 +7,4 @@ use Rattle.sha256.proofs.sha256.Goals as goal
 
 pub returns : goal.returns
 unfolding hash_value
-returns c = c.finish.ensures ∙ rw c.new.ensures (after_blocks sha_256 [] c.args.m.now (omega arith) refl)
+returns c = c.finish.ensures.0 ∙ rw c.new.ensures (after_blocks sha_256 [] c.args.m.now (omega arith) refl)

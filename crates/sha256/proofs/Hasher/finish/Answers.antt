@@ -1,5 +1,5 @@
 -- `sha256::Hasher::finish` meets its contract.
-use Rattle.std.proofs.Common.{◌≡◌, List, ℕ, ◌+◌, ◌*◌, ◌/◌, drop, ap, sym, ◌∙◌, arith}
+use Rattle.std.proofs.Common.{◌≡◌, refl, List, ℕ, ◌+◌, ◌*◌, ◌/◌, drop, ap, sym, ◌∙◌, arith}
 use Rattle.common.specs.Laid.{part_from}
 use Rattle.sha2_rules.specs.Parameters.{sha_256}
 use Rattle.sha2_rules.proofs.FinishLaws.{rest, whole, length_rest, ends_there, finished}
@@ -18,7 +18,9 @@ last_blocks-blocks-requires c =
 pub returns : goal.returns
 returns c =
     let m = c.args.m.now in
-    let r = rest_is m c.as_chunks.ensures.back in
-    c.digest.ensures
-    ∙ finished sha_256 (omega arith) c.args.self.now.value m _ _ c.last_blocks-blocks.result c.args.before c.requires.0 (rw (r, length_rest sha_256) at c.last_blocks-blocks.ensures) c.absorb.ensures
-    (rw (r, length_rest sha_256) at c.absorb_blocks.ensures)
+    let r = rest_is m c.as_chunks.ensures.back in (
+      c.digest-whole.ensures
+          ∙ finished sha_256 (omega arith) c.args.self.now.value m _ _ c.last_blocks-blocks.result c.args.before c.requires.0 (rw (r, length_rest sha_256) at c.last_blocks-blocks.ensures) c.absorb.ensures
+          (rw (r, length_rest sha_256) at c.absorb_blocks.ensures),
+      refl,
+    )
