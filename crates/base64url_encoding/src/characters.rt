@@ -6,10 +6,10 @@ ghost use Rattle.base64url_rules.proofs.Tables.{characters};
 const CHARACTERS: [u8; 64] = *b"ABCDEFGHIJKLMNOPQRSTUVWXYZabcdefghijklmnopqrstuvwxyz0123456789-_";
 
 // The character of every value.
-#[derive(Drop)]
+#[derive(Clone, Copy)]
 pub struct Alphabet {
-    entries: [u8; 64],
-    ghost right: { entries ≡ characters },
+    pub entries: [u8; 64],
+    pub ghost right: { entries ≡ characters },
 }
 
 impl Alphabet {

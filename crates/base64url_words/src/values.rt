@@ -104,10 +104,10 @@ const VALUES: [i8; 256] = [
 ];
 
 // The value of every character, and a number below 0 outside the alphabet.
-#[derive(Drop)]
+#[derive(Clone, Copy)]
 pub struct Values {
-    entries: [i8; 256],
-    ghost right: { entries ≡ values },
+    pub entries: [i8; 256],
+    pub ghost right: { entries ≡ values },
 }
 
 impl Values {

@@ -7,10 +7,10 @@ use crate::values::Values;
 use crate::words::Table;
 
 // The value of every character, and then every value six bits up.
-#[derive(Drop)]
+#[derive(Clone, Copy)]
 pub struct Wide {
-    entries: [i32; 512],
-    ghost right: { entries ≡ wide },
+    pub entries: [i32; 512],
+    pub ghost right: { entries ≡ wide },
 }
 
 impl Wide {

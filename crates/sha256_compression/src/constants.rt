@@ -18,7 +18,7 @@ const K: [u32; 64] = [
 // The round constants. A caller makes them once and lends them, since a constant array is copied wherever it is named.
 #[derive(Drop)]
 pub struct Constants {
-    words: [u32; 64],
+    pub words: [u32; 64],
 }
 
 impl Model for Constants {
