@@ -5,7 +5,7 @@ ghost use Rattle.std.specs.Prelude.{◌≡◌, ◌+◌, ◌≤◌, ◌<◌, leng
 ghost use Rattle.common.specs.First.{Decides};
 ghost use Rattle.keytable_rules.specs.Table.{entry_place, area_at, part, id_area, id_of};
 
-use common::number2_at;
+use common::{number2_at, word8_at};
 
 // The bytes before the entries, and those of an entry.
 const HEAD: usize = 8;
@@ -38,10 +38,24 @@ pub fn id_of(table: &[u8], i: usize) -> &[u8]
     area(table, entry_at(i))
 }
 
-// Whether two slices have the same bytes. Rules out slices that are only as long as one another, and one that is the beginning of the
-// other.
+// Whether two slices have the same bytes, eight at a time, since `==` looks at one after the other; the last eight may overlap those
+// before them.
+// Rules out slices that are only as long as one another, and one that is the beginning of the other.
 pub fn same(a: &[u8], b: &[u8]) -> bool
     ensures { Decides (a.now ≡ b.now) result }
 {
-    a == b
+    let n = a.len();
+    if n != b.len() {
+        return false;
+    }
+    if n < 8 {
+        return a == b;
+    }
+    let last = n - 8;
+    for i in (0..last).step_by(8) {
+        if word8_at(a, i) != word8_at(b, i) {
+            return false;
+        }
+    }
+    word8_at(a, last) == word8_at(b, last)
 }
