@@ -1,6 +1,6 @@
 -- The number of each answer, as docs/SPECIFICATION.md has it.
 use Rattle.std.specs.Prelude.{ℕ, Result, Ok, Err}
-use Rattle.answers.specs.declared.Refusal.{Refusal}
+use Rattle.answers.specs.declared.refusal.Refusal.{Refusal}
 
 abbrev pub number : Refusal → ℕ
 number Refusal.TokenTooLong = 1

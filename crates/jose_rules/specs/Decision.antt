@@ -1,6 +1,6 @@
 -- What a header decides, or the number of the first rule that refuses it: what `decide_with` and `decide` answer.
 use Rattle.std.specs.Prelude.{List, [], ◌∷◌, ◌++◌, ℕ, length, Result, Ok, Err}
-use Rattle.answers.specs.declared.Refusal.{Refusal}
+use Rattle.answers.specs.declared.refusal.Refusal.{Refusal}
 use Rattle.answers.specs.Numbers.{number}
 use Rattle.common.specs.First.{Test, first, settle}
 use Rattle.json_rules.specs.Tests.{length_test}

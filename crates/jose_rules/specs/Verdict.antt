@@ -1,6 +1,6 @@
 -- What the facts decide: the number of the first rule that refuses; or the key's index, whether `kid` is there, and the format.
 use Rattle.std.specs.Prelude.{Bool, ℕ, Result, Ok, Err}
-use Rattle.answers.specs.declared.Refusal.{Refusal}
+use Rattle.answers.specs.declared.refusal.Refusal.{Refusal}
 use Rattle.answers.specs.Numbers.{number}
 use Rattle.jose_rules.specs.declared.Taken.{Taken}
 

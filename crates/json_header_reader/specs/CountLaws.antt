@@ -6,7 +6,7 @@ use mathlib.Core.List.{List, [], ◌∷◌}
 use Prim.Native.Nat.{ℕ, zero, suc, ◌≤◌, ◌<◌}
 use borrow.Author.Tests.{ltb-false, ne_eqb}
 use Rattle.common.proofs.Decided.{test_false}
-use Rattle.answers.specs.declared.Refusal.{Refusal}
+use Rattle.answers.specs.declared.refusal.Refusal.{Refusal}
 use Rattle.answers.specs.Numbers.{number}
 use Rattle.answers.proofs.NumberLaws.{not_done}
 use Rattle.common.specs.First.{among, settle}

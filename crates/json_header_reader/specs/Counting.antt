@@ -1,6 +1,6 @@
 -- How many members a header has.
 use Rattle.std.specs.Prelude.{Bool, true, false, List, ℕ, eqb, Result, Ok, Err}
-use Rattle.answers.specs.declared.Refusal.{Refusal}
+use Rattle.answers.specs.declared.refusal.Refusal.{Refusal}
 use Rattle.answers.specs.Numbers.{number}
 use Rattle.common.specs.First.{settle}
 use Rattle.json_grammar_rules.specs.Value.{plain_members}

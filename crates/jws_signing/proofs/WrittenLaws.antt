@@ -9,7 +9,7 @@ use lib.ListN.{length, take, drop, replicate}
 use borrow.Rule.Slice.PartMut.{put_mid}
 use Rattle.common.specs.Buffer.{filled, laid}
 use Rattle.common.specs.Laid.{cleared_from, take_laid}
-use Rattle.answers.specs.declared.Refusal.{Refusal}
+use Rattle.answers.specs.declared.refusal.Refusal.{Refusal}
 use Rattle.jws_rules.specs.Results.{sign_result}
 use Rattle.jws_rules.specs.Outcomes.{Signed}
 use Rattle.jws_rules.specs.Outcomes.{SignOutcome, handed, unsigned, signed_as}

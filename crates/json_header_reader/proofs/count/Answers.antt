@@ -3,13 +3,14 @@ use Rattle.std.proofs.Common.{rules, ◌≡◌, ◌∙◌, ℕ, ◌+◌, ◌<◌
 use Rattle.std.specs.Prelude.{Result}
 use borrow.Author.Tests.{lt-ltb}
 use denote.Enum.Bare.{same_true, same_false}
-use Rattle.answers.specs.declared.Refusal.{Refusal}
-use Rattle.answers.specs.contracts.Refusal.{the_type}
+use Rattle.answers.specs.declared.refusal.Refusal.{Refusal}
+use Rattle.answers.specs.contracts.refusal.Refusal.{the_type}
 use Rattle.answers.specs.Numbers.{answer}
 use Rattle.answers.proofs.NumberLaws.{done, refused}
 use Rattle.json_rules.specs.declared.Member.{Member as Found}
 use Rattle.json_rules.specs.Answers.{number_of}
-use Rattle.json_rules.specs.Shown.{shown, number_shown}
+use Rattle.json_rules.specs.Shown.{shown}
+use Rattle.json_rules.proofs.ShownLaws.{number_shown}
 use Rattle.json_rules.specs.Tests.{member_of}
 use Rattle.json_header_reader.specs.Following.{greatest, following_of}
 use Rattle.json_header_reader.specs.CountLaws.{total, few, goes_on, stops_last, stops_refused}
