@@ -19,7 +19,7 @@ use jose_facts::{Known, facts_of, known_from};
 use jose_judging::judge;
 use jose_rules::{Choice, Facts, Part, Said};
 use json_check::check_text;
-use json_members::{Value, top_members};
+use json_members::{Value, size, top_members};
 use json_rules::{DEEPEST, LONGEST};
 use keytable::KeyTable;
 
@@ -83,7 +83,7 @@ fn raw(slot: Option<Value>) -> Part
     match slot {
         Some(value) => Part {
             start: value.place.start,
-            length: value.place.size(),
+            length: size(value.place),
         },
         None => Part {
             start: 0,

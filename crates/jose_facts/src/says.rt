@@ -8,7 +8,7 @@ use crate::kinds::differ;
 use crate::words::{HS256, is_word};
 use decimal::parse;
 use jose_rules::{Algorithm, Said};
-use json_members::{Kind, Value};
+use json_members::{Kind, Value, size};
 use json_string::resolve;
 use keytable::KeyTable;
 
@@ -77,7 +77,7 @@ pub(crate) fn fmt_of(text: &[u8], slot: Option<Value>) -> Said<i64>
         return Said::Wrong;
     }
     let start = value.place.start;
-    match parse(&text[start..start + value.place.size()]) {
+    match parse(&text[start..start + size(value.place)]) {
         Some(number) => Said::Is(number),
         None => Said::Wrong,
     }

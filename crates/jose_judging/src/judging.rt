@@ -8,6 +8,7 @@ ghost use Rattle.jose_rules.specs.Verdict.{judged};
 ghost use Rattle.jose_rules.specs.Facts.{missing_or_wrong, critical_broken, lists_badly, is_wrong, index_of, chosen_key, format_by, known_tests, verdict};
 ghost use Rattle.jose_judging.specs.Judging.{KeyWithin, key_verdict, small_of};
 
+use crate::asked::{is_missing, is_there, is_wrong};
 use answers::Refusal;
 use jose_rules::{Algorithm, Facts, Listed, Said, Taken};
 use keytable::KeyTable;
@@ -44,12 +45,12 @@ fn check_known(facts: Facts, unprotected: Facts) -> Result<(), Refusal>
 fn missing_or_wrong(facts: Facts) -> bool
     ensures { result ≡ missing_or_wrong facts }
 {
-    facts.alg.is_missing()
-        || facts.kid.is_wrong()
-        || facts.typ.is_wrong()
-        || facts.cty.is_wrong()
-        || facts.crit.is_wrong()
-        || facts.fmt.is_wrong()
+    is_missing(facts.alg)
+        || is_wrong(facts.kid)
+        || is_wrong(facts.typ)
+        || is_wrong(facts.cty)
+        || is_wrong(facts.crit)
+        || is_wrong(facts.fmt)
 }
 
 // Rule 10.
@@ -57,7 +58,7 @@ fn missing_or_wrong(facts: Facts) -> bool
 fn critical_broken(facts: Facts, unprotected: Facts) -> bool
     ensures { result ≡ critical_broken facts unprotected }
 {
-    lists_badly(facts.crit, facts.fmt.is_there()) || unprotected.crit.is_there()
+    lists_badly(facts.crit, is_there(facts.fmt)) || is_there(unprotected.crit)
 }
 
 // Whether `crit` lists badly, or what it lists isn't what is there.
@@ -91,7 +92,7 @@ fn judge_key(facts: Facts, table: KeyTable) -> Result<Taken, Refusal>
     }
     Ok(Taken {
         key_index,
-        kid_present: facts.kid.is_there(),
+        kid_present: is_there(facts.kid),
         format,
     })
 }

@@ -2,6 +2,7 @@
 ghost use Rattle.std.specs.Prelude.{◌≡◌};
 ghost use Rattle.jose_rules.specs.Facts.{merged};
 
+use crate::asked::said_or;
 use jose_rules::Facts;
 
 // The facts of both. Rules out the second header's `alg` for the first's, and a member of the second that is lost.
@@ -10,11 +11,11 @@ pub fn merge(first: Facts, second: Facts) -> Facts
     ensures { result ≡ merged first second }
 {
     Facts {
-        alg: first.alg.or(second.alg),
-        kid: first.kid.or(second.kid),
-        typ: first.typ.or(second.typ),
-        cty: first.cty.or(second.cty),
-        crit: first.crit.or(second.crit),
-        fmt: first.fmt.or(second.fmt),
+        alg: said_or(first.alg, second.alg),
+        kid: said_or(first.kid, second.kid),
+        typ: said_or(first.typ, second.typ),
+        cty: said_or(first.cty, second.cty),
+        crit: said_or(first.crit, second.crit),
+        fmt: said_or(first.fmt, second.fmt),
     }
 }

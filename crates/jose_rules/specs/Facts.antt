@@ -43,6 +43,12 @@ said f k o = fact Said.Absent Said.Wrong (λ a. Said.Is (f a)) k o
 abbrev pub alg_by : List ℕ → Algorithm
 alg_by s = cond (same s HS256) Algorithm.HS256 Algorithm.Other
 
+abbrev pub alg_other : Said Algorithm → Bool
+alg_other Said.Absent = false
+alg_other Said.Wrong = false
+alg_other (Said.Is Algorithm.HS256) = false
+alg_other (Said.Is Algorithm.Other) = true
+
 -- the key whose id is the UTF-8 of s
 abbrev pub found_by : List Key → List ℕ → Perhaps ℕ
 found_by ks s = find (utf8 s) ks
@@ -127,12 +133,6 @@ module _ {A : Type 0} where
   is_there Said.Absent = false
   is_there Said.Wrong = true
   is_there (Said.Is a) = true
-
-abbrev pub alg_other : Said Algorithm → Bool
-alg_other Said.Absent = false
-alg_other Said.Wrong = false
-alg_other (Said.Is Algorithm.HS256) = false
-alg_other (Said.Is Algorithm.Other) = true
 
 abbrev pub differ : Bool → Bool → Bool
 differ true b = not b

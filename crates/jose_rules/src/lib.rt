@@ -3,8 +3,6 @@
 // compute them.
 #![tactic(auto)]
 
-mod asked; // asked.rt: what is asked of what a header says of a member
-
 // WHAT A HEADER SAYS of a known member, with no text and no place.
 #[derive(Clone, Copy)]
 pub enum Said<T> {

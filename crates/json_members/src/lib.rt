@@ -7,6 +7,6 @@ mod slots; // slots.rt: what is known of the members with the names that are loo
 
 pub use json_grammar_rules::Kind;
 pub use json_rules::Place;
-pub use places::Value;
+pub use places::{Value, size};
 pub use slots::taken;
 pub use steps::{Entry, Item, entry_at, first_element, first_member, item_at, top_members};

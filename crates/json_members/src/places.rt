@@ -3,7 +3,7 @@ ghost use Rattle.std.specs.Prelude.{◌≡◌, ◌+◌, ◌-◌, ◌<◌};
 ghost use Rattle.json_grammar_rules.specs.Places.{margin};
 ghost use Rattle.json_grammar_rules.specs.Reader.{value_lead};
 ghost use Rattle.json_reader.specs.Reads.{kind_by};
-ghost use Rattle.json_rules.specs.Answers.{place};
+ghost use Rattle.json_rules.specs.Answers.{place, size_of};
 
 use json_grammar_rules::Kind;
 use json_rules::Place;
@@ -13,6 +13,14 @@ use json_rules::Place;
 pub struct Value {
     pub kind: Kind,
     pub place: Place,
+}
+
+// How many bytes a place has. Rules out one more for the byte past its end, and a difference that wraps where the end lies before the
+// start.
+pub fn size(place: Place) -> usize
+    ensures { result ≡ size_of place }
+{
+    place.end.saturating_sub(place.start)
 }
 
 // The kind of a value that begins with the byte b.

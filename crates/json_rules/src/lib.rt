@@ -2,8 +2,6 @@
 // The crates `json_check` and `json_header` compute them.
 #![tactic(auto)]
 
-mod places; // places.rt: the size of a place
-
 // The greatest length of a header, and the greatest depth, in which the top object is 1.
 pub const LONGEST: usize = 4096;
 
