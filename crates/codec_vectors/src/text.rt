@@ -1,5 +1,5 @@
 // Words, hexadecimal and decimal numbers of a line.
-ghost use Rattle.std.specs.Prelude.{◌<◌, ◌≤◌, length};
+ghost use Rattle.std.specs.Prelude.{◌≡◌, ◌<◌, ◌≤◌, ◌+◌, ◌%◌, length};
 
 use std::io;
 
@@ -11,11 +11,14 @@ pub fn word(s: &[u8]) -> (&[u8], &[u8]) {
     }
 }
 
+// The value of a hexadecimal digit; of another byte what a digit of its bits would have.
 fn nibble(c: u8) -> u8
-    ensures { result < 16 }
+    ensures bound { result < 16 }
+    ensures digit { c ≤ 57 → result ≡ c % 16 }
+    ensures letter { 57 < c → result ≡ (c % 16 + 9) % 16 }
 {
     match c {
-        b'0'..=b'9' => c % 16,
+        ..=b'9' => c % 16,
         _ => (c % 16 + 9) % 16,
     }
 }
