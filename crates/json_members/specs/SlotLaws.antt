@@ -1,5 +1,5 @@
 -- What a slot shows: the value's kind, and what stands at its place.
-use Rattle.std.specs.Prelude.{◌≡◌, refl, List, ℕ, ◌+◌, ◌≤◌, ◌<◌, length, Some, None}
+use Rattle.std.specs.Prelude.{◌≡◌, refl, Bool, false, List, ℕ, ◌+◌, ◌≤◌, ◌<◌, length, Some, None}
 use Rattle.std.proofs.Common.{sym, ◌∙◌, subst, arith}
 use Rattle.std.proofs.Math.Path.{ap}
 use Rattle.std.proofs.Math.Option.{Option, none, some}
@@ -36,16 +36,20 @@ not_shown (some i) s = absurd s.has
 -- THE KINDS
 
 module _ {h : List ℕ} {d : ℕ} {k : Kind} {x : Place} {a b : List ℕ} {v : LValue} (w : ValueIs h d k x a b v) where
+  -- a value whose kind isn't one that `is` tells
+  pub kind_untold : (is : Kind → Bool) → is k ≡ false → is (kind_of (plain v)) ≡ false
+  kind_untold is e = sym (ap is w.kind) ∙ e
+
   -- a value of another kind
   pub kind_no : {c : Kind} → (k ≡ c → ⊥) → kind_of (plain v) ≡ c → ⊥
   kind_no n e = n (w.kind ∙ e)
 
   module _ {c : Kind} (e : k ≡ c) where
-    kind_yes : kind_of (plain v) ≡ c
+    pub kind_yes : kind_of (plain v) ≡ c
     kind_yes = sym w.kind ∙ e
 
     -- what stands at the place of a value of the kind c
-    held : Holds h d x c v
+    pub held : Holds h d x c v
     held = subst (λ (z : Kind). Holds h d x z v) e w.holds
 
   -- a string's characters stand at its place
