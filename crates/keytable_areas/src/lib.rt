@@ -38,8 +38,8 @@ pub fn id_of(table: &[u8], i: usize) -> &[u8]
     area(table, entry_at(i))
 }
 
-// Whether two slices have the same bytes, eight at a time, since `==` looks at one after the other; the last eight may overlap those
-// before them.
+// Whether two slices have the same bytes, eight at a time, since `==` looks at one after the other below 32; the last eight may overlap those
+// before them. By `while`: a range by steps, or of the words' numbers, takes longer for ids of a word or two.
 // Rules out slices that are only as long as one another, and one that is the beginning of the other.
 pub fn same(a: &[u8], b: &[u8]) -> bool
     ensures { Decides (a.now ≡ b.now) result }
@@ -52,10 +52,12 @@ pub fn same(a: &[u8], b: &[u8]) -> bool
         return a == b;
     }
     let last = n - 8;
-    for i in (0..last).step_by(8) {
+    let mut i: usize = 0;
+    while i < last {
         if word8_at(a, i) != word8_at(b, i) {
             return false;
         }
+        i += 8;
     }
     word8_at(a, last) == word8_at(b, last)
 }

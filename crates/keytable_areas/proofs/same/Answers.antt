@@ -3,7 +3,7 @@ use borrow.Author.Rules.{rules}
 use mathlib.Core.Path.{◌≡◌, refl, ap, sym, ◌∙◌}
 use mathlib.Core.Bool.{Bool, true, false}
 use mathlib.Core.List.{List}
-use Prim.Native.Nat.{ℕ, ◌-◌}
+use Prim.Native.Nat.{ℕ, ◌-◌, ◌*◌}
 use native.Mathlib.Omega.{arith}
 use lib.ListN.{length}
 use lib.Seq.{ext_get_or}
@@ -16,7 +16,6 @@ use Rattle.common.proofs.FirstLaws.{decides_eq}
 use Rattle.common.proofs.Decided.{decides_by}
 use Rattle.common.specs.BytesLaws.{bytes_of}
 use Rattle.common.specs.LittleEndian.{SameTo, word8, same_word8}
-use Rattle.keytable_areas.proofs.same.Goals.{else-loop-i-test, then-loop-i-test+else-word8_at+else-last-i-gt8}
 use Rattle.keytable_areas.proofs.same.Goals as goal
 
 decides : {P : Type 0} (b : Bool) → (b ≡ true → P) × (P → b ≡ true) → Decides P b
@@ -49,11 +48,6 @@ returns c =
     let a = c.word8_at-2.ensures in
     let b = c.word8_at-3.ensures in
     let last = length c.args.a.now - 8 in
-    let front : SameTo c.args.a.now c.args.b.now last =
-    elim c.loop-i-test.branch [
-      | else-loop-i-test w ↦ (λ k h. v.1 k (omega arith))
-      | then-loop-i-test+else-word8_at+else-last-i-gt8 w ↦ (λ k h. same_word8 v.2 v.3 _ v.1 (sym w.word8_at.ensures ∙ w.if-word8_at.false ∙ w.word8_at-in-loop-i.ensures) k (omega arith))
-    ] in
     decides_by (decides_eq c.word8_at-2.result c.word8_at-3.result)
-    (λ e. ext_get_or 0 _ _ (omega arith) (λ j h. same_word8 v.2 v.3 last front (sym a ∙ e ∙ b) j (omega arith)))
+    (λ e. ext_get_or 0 _ _ (omega arith) (λ j h. same_word8 v.2 v.3 last (λ k h. v.1 k (omega arith)) (sym a ∙ e ∙ b) j (omega arith)))
     (λ e. a ∙ ap (λ (c : List ℕ). word8 c last) e ∙ sym b)
