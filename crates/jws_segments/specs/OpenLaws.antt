@@ -1,5 +1,5 @@
 -- Laws of the segments: what decoding leaves in the buffers.
-use Rattle.std.specs.Prelude.{◌≡◌, refl, Bool, true, false, cond, ◌&&◌, List, ℕ, ◌≤◌, eqb, length, take, replicate, Option, Some, None, Result, Ok, Err}
+use Rattle.std.specs.Prelude.{◌≡◌, refl, Bool, true, false, cond, ◌&&◌, List, ℕ, ◌≤◌, eqb, length, take, replicate, Some, None, Result, Ok, Err}
 use Rattle.std.specs.Bool.{then_some}
 use Rattle.std.proofs.Common.{sym, ap, ◌∙◌, subst, append-nil, arith, eqb-true}
 use Rattle.std.proofs.lemmas.Bool.{eqb-false}
@@ -58,7 +58,7 @@ compared z mac l = go (eqb (length (decode z)) 32) refl
 
 -- THE THREE SEGMENTS
 
--- .. of the segments: the length of the third, and what it left in the buffer
+-- what opening answers and leaves in the buffers, by what decoding each segment does
 pub opening_is : (x y z h p : List ℕ) {hb pb bytes : List ℕ} {u v w : Result ℕ ℕ}
     → (u ≡ segment_of x) × (hb ≡ decoded_out x h) → (v ≡ segment_of y) × (pb ≡ decoded_out y p) → (w ≡ segment_of z) × (bytes ≡ decoded_out z (replicate 32 0))
     → opened_to (record { header = u; payload = v; signature = w; bytes = bytes }) hb pb ≡ opening x y z h p

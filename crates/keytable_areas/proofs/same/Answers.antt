@@ -3,7 +3,7 @@ use borrow.Author.Rules.{rules}
 use mathlib.Core.Path.{◌≡◌, refl, ap, sym, ◌∙◌}
 use mathlib.Core.Bool.{Bool, true, false}
 use mathlib.Core.List.{List}
-use Prim.Native.Nat.{ℕ, ◌-◌, ◌*◌}
+use Prim.Native.Nat.{ℕ, ◌-◌}
 use native.Mathlib.Omega.{arith}
 use lib.ListN.{length}
 use lib.Seq.{ext_get_or}
@@ -15,7 +15,7 @@ use Rattle.common.specs.First.{Decides, holds, fails}
 use Rattle.common.proofs.FirstLaws.{decides_eq}
 use Rattle.common.proofs.Decided.{decides_by}
 use Rattle.common.specs.BytesLaws.{bytes_of}
-use Rattle.common.specs.LittleEndian.{SameTo, word8, same_word8}
+use Rattle.common.specs.LittleEndian.{word8, same_word8}
 use Rattle.keytable_areas.proofs.same.Goals as goal
 
 decides : {P : Type 0} (b : Bool) → (b ≡ true → P) × (P → b ≡ true) → Decides P b

@@ -1,7 +1,6 @@
 -- `first_outside`: the characters before i are of the alphabet.
 use Rattle.std.proofs.Common.{arith, below_more, below_none}
 use borrow.Author.Tests.{lt-leb, le-leb}
-use Rattle.base64url_rules.specs.Alphabet.{value}
 use Rattle.base64url_rules.proofs.Searches.{met, unmet}
 use Rattle.base64url_decoding.proofs.fault.first_outside.Goals as goal
 
@@ -16,4 +15,4 @@ pub loop-i-preserved : goal.loop-i-preserved
 loop-i-preserved c = below_more _ _ c.loop-i.invariant (lt-leb 64 _ (omega (arith, c.if-value-ge64.false, c.value.ensures)))
 
 pub returns : goal.returns
-returns c = unmet _ c.args.text.now 0 (λ k h. c.loop-i.invariant k (omega (arith, h, c.loop-i-test.false)))
+returns c = unmet _ c.args.text.now 0 c.loop-i.invariant c.loop-i-test.false

@@ -1,5 +1,5 @@
 -- `block_with_period`: no block before i has a period.
-use Rattle.std.proofs.Common.{[], sym, ◌∙◌, arith}
+use Rattle.std.proofs.Common.{[], sym, ◌∙◌}
 use Rattle.base64url_rules.proofs.Searches.{met, unmet}
 use Rattle.jws_segments.proofs.periods.block_with_period.Goals as goal
 
@@ -7,4 +7,4 @@ pub returns-then-has_period : goal.returns-then-has_period
 returns-then-has_period c = met _ _ [] c.loop-i.i c.loop-i.invariant c.loop-i-test.true (sym c.has_period.ensures ∙ c.if-has_period.true)
 
 pub returns : goal.returns
-returns c = unmet _ c.args.blocks.now [] (λ k h. c.loop-i.invariant k (omega (arith, h, c.loop-i-test.false)))
+returns c = unmet _ c.args.blocks.now [] c.loop-i.invariant c.loop-i-test.false

@@ -1,5 +1,5 @@
 -- `period`: no byte before i is a period.
-use Rattle.std.proofs.Common.{arith, below_more, below_none, eq-eqb, ne_eqb}
+use Rattle.std.proofs.Common.{below_more, below_none, eq-eqb, ne_eqb}
 use Rattle.base64url_rules.proofs.Searches.{met, unmet}
 use Rattle.jws_segments.proofs.periods.period.Goals as goal
 
@@ -13,4 +13,4 @@ pub loop-i-preserved : goal.loop-i-preserved
 loop-i-preserved c = below_more _ _ c.loop-i.invariant (ne_eqb _ 46 c.if-s-i-eq46.false)
 
 pub returns : goal.returns
-returns c = unmet _ c.args.s.now 0 (λ k h. c.loop-i.invariant k (omega (arith, h, c.loop-i-test.false)))
+returns c = unmet _ c.args.s.now 0 c.loop-i.invariant c.loop-i-test.false
